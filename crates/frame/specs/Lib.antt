@@ -1,0 +1,4 @@
+pub mod Answer
+pub mod Mark
+pub mod Frame
+pub mod RoundTrip
