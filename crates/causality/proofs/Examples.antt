@@ -1,0 +1,121 @@
+-- The starred examples of document 01, computed by the calls on bytes: one check of the whole list. Assumes nothing.
+use Prim.Native.Nat.{ℕ}
+use lib.Dec.{T}
+use lib.ListN.{replicate, take}
+use mathlib.Core.Bool.{Bool, _&&_, false, true}
+use mathlib.Core.List.{List, [], _++_, _∷_, reverse}
+use Rattle.frame.specs.declared.MarkBox.{MarkBox}
+use Rattle.frame.specs.Answer.{Answer, gives, refused}
+use Rattle.frame.specs.Frame.{at2, at4, bytes2, bytes4, countBad, edition, entriesBad, entriesOf, entryBad, fieldsBad, fieldsOf, frameOf, headOf, lengthBad, outputShort, partBad, readEntries, readFields, versionBad, writeSize}
+use Rattle.frame.specs.Mark.{MarkId, boxRule, desks, isDesk, isNumber}
+use Rattle.causality.specs.Answers.{After, Before, Concurrent, Executed, Known, Reception, Relation, Same, Waiting}
+use Rattle.causality.specs.Calls.{apartOf, arrive, executing, fieldsOfMark, firstApart, frameOfMark, full, mark, markAnswer, markIn, new, newMark, receive, receiveMark, refuse, relate, sameBytes, sizeOfMark, unmade}
+use Rattle.causality.specs.Examples.{starred}
+use Rattle.causality.specs.Marks.{same}
+use Rattle.causality.specs.State.{State, concurrent, falseStamp, heads, ids, isHead, previous, ready}
+use Rattle.causality.proofs.Fit.{markSize}
+
+abbrev box : MarkBox
+box = record { start = 1_000; end = 1_500; low = 100; high = 400 }
+
+abbrev id : ℕ → ℕ → MarkId
+id d n = record { desk = d; number = n }
+
+-- Mark at a desk, the frame that it writes, and Receive of frames in order.
+abbrev marks : State → State
+marks st = (mark desks st box (replicate 71 0)) .state
+
+abbrev writes : State → List ℕ
+writes st = take (markSize 0 (newMark st box)) ((mark desks st box (replicate 71 0)) .bytes)
+
+abbrev receives : State → List (List ℕ) → State
+receives st [] = st
+receives st (s ∷ ss) = receives ((receive desks st s) .state) ss
+
+abbrev fresh : ℕ → State
+fresh d = (new desks d) .state
+
+abbrev f11 : List ℕ
+f11 = writes (fresh 1)
+
+abbrev f21 : List ℕ
+f21 = writes (fresh 2)
+
+abbrev f31 : List ℕ
+f31 = writes (fresh 3)
+
+abbrev f32 : List ℕ
+f32 = writes (marks (fresh 3))
+
+-- "1.2 after 1.1, 2.1, 3.1".
+abbrev f12 : List ℕ
+f12 = writes (receives (marks (fresh 1)) (f21 ∷ f31 ∷ []))
+
+-- "Desk 2 with 2.1 and 3.1".
+abbrev desk2 : State
+desk2 = receives (marks (fresh 2)) (f31 ∷ [])
+
+-- "2.2 after 1.2"; "4.1 after 1.1, 3.1, 3.2".
+abbrev f22 : List ℕ
+f22 = writes (receives desk2 (f12 ∷ f11 ∷ []))
+
+abbrev f41 : List ℕ
+f41 = writes (receives (fresh 4) (f11 ∷ f31 ∷ f32 ∷ []))
+
+-- "Desk 3 with 3.1, 3.2, 1.1, 2.1, 1.2, 2.2 receives 4.1".
+abbrev desk3 : State
+desk3 = receives (marks (marks (fresh 3))) (f11 ∷ f21 ∷ f12 ∷ f22 ∷ f41 ∷ [])
+
+-- 1.2 with an empty stamp, and 1.1.
+abbrev forged : ℕ → List ℕ
+forged n = frameOfMark desks (record { id = id 1 n; extent = box; stamp = [] })
+
+-- The numbers of specs/Examples.antt.
+abbrev names : List MarkId → List ℕ
+names [] = []
+names (i ∷ is) = i .desk ∷ i .number ∷ names is
+
+abbrev reception : Answer Reception → List ℕ
+reception (gives Known) = 999 ∷ []
+reception (gives Waiting) = 0 ∷ []
+reception (gives (Executed k f)) = 1 ∷ k ∷ f ∷ []
+reception (refused c) = c ∷ []
+
+abbrev relation : Answer Relation → List ℕ
+relation (gives Same) = 0 ∷ []
+relation (gives Before) = 1 ∷ []
+relation (gives After) = 2 ∷ []
+relation (gives Concurrent) = 3 ∷ []
+relation (refused c) = c ∷ []
+
+abbrev value : Answer ℕ → ℕ
+value (gives n) = n
+value (refused c) = c
+
+abbrev answered : State → List ℕ → List ℕ
+answered st s = reception ((receive desks st s) .answer)
+
+abbrev entries : List ℕ → List ℕ
+entries s = names (entriesOf (readEntries (edition desks) s))
+
+abbrev found : List (List ℕ)
+found =
+    entries f12 ∷ entries f22 ∷ entries f41
+    ∷ answered desk2 f12
+    ∷ (answered (receives desk2 (f12 ∷ [])) f11 ++ names (reverse (ids ((receives desk2 (f12 ∷ f11 ∷ [])) .executed))))
+    ∷ names (apartOf desk3 (id 4 1))
+    ∷ (value (firstApart desks desk3 (id 4 1) 1) ∷ value (firstApart desks desk3 (id 4 1) 2) ∷ value (firstApart desks desk3 (id 4 1) 3) ∷ [])
+    ∷ relation (relate desk3 (id 3 1) (id 4 1)) ∷ relation (relate desk3 (id 1 2) (id 3 2)) ∷ relation (relate desk3 (id 2 2) (id 1 1))
+    ∷ (answered (fresh 2) (forged 2) ++ answered (receives (fresh 2) (forged 2 ∷ [])) (forged 1))
+    ∷ answered (receives (fresh 2) (forged 1 ∷ [])) (forged 2)
+    ∷ []
+
+abbrev equal : List (List ℕ) → List (List ℕ) → Bool
+equal [] [] = true
+equal [] (y ∷ ys) = false
+equal (x ∷ xs) [] = false
+equal (x ∷ xs) (y ∷ ys) = sameBytes x y && equal xs ys
+
+pub examples : T (equal found starred)
+unfolding isDesk isNumber boxRule at2 at4 bytes2 bytes4 fieldsOf headOf frameOf lengthBad versionBad countBad partBad fieldsBad entryBad entriesBad outputShort readFields readEntries writeSize same isHead heads previous ready falseStamp concurrent new fieldsOfMark frameOfMark sizeOfMark markIn full newMark markAnswer mark refuse executing arrive unmade receiveMark receive relate apartOf firstApart
+examples = tt

@@ -1,0 +1,224 @@
+-- Marks that a frame can carry: what conditions 4 to 6 ask of a mark, as facts, and that such a mark is written and read back. Assumes nothing.
+use Prim.Native.Nat.{_%_, _*_, _+_, _/_, _<_, _≤_, ℕ}
+use borrow.Author.Tests.{eq-eqb, eqb-true, le-ltb, leb-false, leb-true, lt-leb, not-false}
+use lib.Dec.{T, eqb, eqb→eq, leb, ltb}
+use lib.ListN.{drop, length, length-drop}
+use lib.Seq.{getD-drop}
+use mathlib.Core.Bool.{Bool, _&&_, _||_, false, not, true}
+use mathlib.Core.List.{List, [], _∷_}
+use mathlib.Core.Logic.{inl, inr}
+use mathlib.Core.Path.{_∙_, _≡_, ap, refl, sym}
+use native.Mathlib.Omega.{arith}
+use Rattle.frame.specs.declared.Fields.{Fields}
+use Rattle.frame.specs.Answer.{gives, refuseIf}
+use Rattle.frame.specs.Frame.{edition, entriesBad, entriesOf, entryBad, entryBytes, fieldsBad, fieldsOf, outputShort, partBad, readEntries, readFields, writeSize}
+use Rattle.frame.specs.Mark.{MarkId, boxRule, isDesk, isNumber, numbers}
+use Rattle.frame.specs.RoundTrip.{AreBytes}
+use Rattle.frame.proofs.Entries.{entries-back, entry-bytes-back, entry-bytes-length}
+use Rattle.frame.proofs.RoundTrip.{PartsPass, Writable, accepted, frame-back, frame-length, frame-read}
+use Rattle.frame.proofs.Tests.{or-false, tests}
+use Rattle.causality.specs.Calls.{fieldsOfMark, frameOfMark, markIn, sameBytes, sizeOfMark}
+use Rattle.causality.specs.Marks.{has, same}
+use Rattle.causality.specs.State.{Mark}
+use Rattle.causality.proofs.Lists.{has-self}
+use Rattle.causality.proofs.Logic.{and-fst, and-snd, and-true, or-cases, or-inr, same→eq}
+use Rattle.causality.proofs.Numbers.{Strict}
+
+module _ (N : ℕ) where
+  pub record Range (i : MarkId) : Type 0 where
+    pub low : 1 ≤ i .desk
+    pub high : i .desk ≤ N
+    pub first : 1 ≤ i .number
+    pub last : i .number ≤ numbers
+
+  pub record Fit (m : Mark) : Type 0 where
+    pub range : Range (m .id)
+    pub rule : boxRule (m .extent) ≡ true
+    pub strict : Strict (m .stamp)
+    pub entries : (e : MarkId) → T (has e (m .stamp)) → Range e
+    pub earlier : (e : MarkId) → T (has e (m .stamp)) → e .desk ≡ m .id .desk → e .number < m .id .number
+    pub count : length (m .stamp) ≤ N
+
+  -- Strictly rising desks from 1 to N are at most N.
+  pub strict-count : (lo : ℕ) (xs : List MarkId) → lo ≤ N → Strict xs → ((e : MarkId) → T (has e xs) → lo < e .desk) → ((e : MarkId) → T (has e xs) → e .desk ≤ N) → length xs + lo ≤ N
+  strict-count lo [] p s f g = omega arith
+  strict-count lo (x ∷ xs) p s f g =
+      let a = f x (has-self x xs) in
+      let r = strict-count (x .desk) xs (g x (has-self x xs)) (s .1) (s .0) (λ e t. g e (or-inr (same e x) (has e xs) t)) in
+      omega arith
+
+  -- THE TESTS AS FACTS
+
+  pub desk-facts : (d : ℕ) → isDesk N d ≡ true → (1 ≤ d) × (d ≤ N)
+  unfolding isDesk
+  desk-facts d h = let p = and-true (leb 1 d) (leb d N) h in (leb-true _ _ (p .0), leb-true _ _ (p .1))
+
+  pub desk-test : (d : ℕ) → 1 ≤ d → d ≤ N → isDesk N d ≡ true
+  unfolding isDesk
+  desk-test d p q = search tests
+
+  number-facts : (n : ℕ) → isNumber n ≡ true → (1 ≤ n) × (n ≤ numbers)
+  unfolding isNumber
+  number-facts n h = let p = and-true (leb 1 n) (leb n numbers) h in (leb-true _ _ (p .0), leb-true _ _ (p .1))
+
+  number-test : (n : ℕ) → 1 ≤ n → n ≤ numbers → isNumber n ≡ true
+  unfolding isNumber
+  number-test n p q = search tests
+
+  range-of : (i : MarkId) → isDesk N (i .desk) ≡ true → isNumber (i .number) ≡ true → Range i
+  range-of i d n = let p = desk-facts (i .desk) d in let q = number-facts (i .number) n in record { low = p .0; high = p .1; first = q .0; last = q .1 }
+
+  -- What condition 6 asks of entries behind one of the desk `last`, in a frame of mark desk.number.
+  record EntriesGood (desk number last : ℕ) (es : List MarkId) : Type 0 where
+    strict : Strict es
+    above : (e : MarkId) → T (has e es) → last < e .desk
+    range : (e : MarkId) → T (has e es) → Range e
+    earlier : (e : MarkId) → T (has e es) → e .desk ≡ desk → e .number < number
+
+  entries-facts : (desk number last : ℕ) (es : List MarkId) → entriesBad N desk number last es ≡ false → EntriesGood desk number last es
+  unfolding entriesBad entryBad
+  entries-facts desk number last [] h = record { strict = tt; above = λ e t. absurd t; range = λ e t. absurd t; earlier = λ e t. absurd t }
+  entries-facts desk number last (x ∷ xs) h = go (entries-facts desk number (x .desk) xs (p .1))
+    where
+      p : (entryBad N desk number last (x .desk) (x .number) ≡ false) × (entriesBad N desk number (x .desk) xs ≡ false)
+      p = or-false (entryBad N desk number last (x .desk) (x .number)) (entriesBad N desk number (x .desk) xs) h
+
+      own : Bool
+      own = eqb (x .desk) desk && leb number (x .number)
+
+      p1 : (not (isDesk N (x .desk)) ≡ false) × ((not (isNumber (x .number)) || (leb (x .desk) last || own)) ≡ false)
+      p1 = or-false (not (isDesk N (x .desk))) (not (isNumber (x .number)) || (leb (x .desk) last || own)) (p .0)
+
+      p2 : (not (isNumber (x .number)) ≡ false) × ((leb (x .desk) last || own) ≡ false)
+      p2 = or-false (not (isNumber (x .number))) (leb (x .desk) last || own) (p1 .1)
+
+      p3 : (leb (x .desk) last ≡ false) × (own ≡ false)
+      p3 = or-false (leb (x .desk) last) own (p2 .1)
+
+      up : last < x .desk
+      up = leb-false _ _ (p3 .0)
+
+      mine : x .desk ≡ desk → x .number < number
+      mine q = leb-false number (x .number) (rw (eq-eqb (x .desk) desk q) at (p3 .1))
+
+      go : EntriesGood desk number (x .desk) xs → EntriesGood desk number last (x ∷ xs)
+      go r = record {
+        strict = (r .above, r .strict);
+        above = λ e t. elim (or-cases (same e x) (has e xs) t) [ inl q ↦ rw (same→eq e x q) up | inr q ↦ let a = r .above e q in let b = up in omega arith ];
+        range = λ e t. elim (or-cases (same e x) (has e xs) t) [ inl q ↦ rw (same→eq e x q) (range-of x (not-false _ (p1 .0)) (not-false _ (p2 .0))) | inr q ↦ r .range e q ];
+        earlier = λ e t. elim (or-cases (same e x) (has e xs) t) [ inl q ↦ rw (same→eq e x q) mine | inr q ↦ r .earlier e q ];
+      }
+
+  entries-test : (desk number last : ℕ) (es : List MarkId) → EntriesGood desk number last es → entriesBad N desk number last es ≡ false
+  unfolding entriesBad entryBad
+  entries-test desk number last [] g = refl
+  entries-test desk number last (x ∷ xs) g =
+      rw (desk-test (x .desk) (r .low) (r .high), number-test (x .number) (r .first) (r .last), lt-leb _ _ (g .above x (has-self x xs)), own)
+      (entries-test desk number (x .desk) xs (record {
+        strict = g .strict .1;
+        above = g .strict .0;
+        range = λ e t. g .range e (or-inr (same e x) (has e xs) t);
+        earlier = λ e t. g .earlier e (or-inr (same e x) (has e xs) t);
+      }))
+    where
+      r : Range x
+      r = g .range x (has-self x xs)
+
+      own : (eqb (x .desk) desk && leb number (x .number)) ≡ false
+      own = go (eqb (x .desk) desk) refl
+        where
+          go : (b : Bool) → eqb (x .desk) desk ≡ b → (b && leb number (x .number)) ≡ false
+          go false q = refl
+          go true q = lt-leb _ _ (g .earlier x (has-self x xs) (eqb-true _ _ q))
+
+  -- FRAMES
+
+  -- A frame that passes the reader carries such a mark.
+  pub frame-fit : (s : List ℕ) (f : Fields) → readFields (edition N) s ≡ gives f → Fit (markIn N s)
+  unfolding markIn readEntries fieldsBad
+  frame-fit s f h =
+      let a = accepted (edition N) s f h .0 in
+      let g = fieldsOf s in
+      let p = or-false (not (isDesk N (g .desk))) (not (isNumber (g .number .0)) || not (boxRule (g .extent))) (a .parts .fields) in
+      let q = or-false (not (isNumber (g .number .0))) (not (boxRule (g .extent))) (p .1) in
+      let es = entries-facts (g .desk) (g .number .0) 0 (entriesOf (drop 23 s)) (a .parts .entries) in
+      let c = strict-count 0 (entriesOf (drop 23 s)) (omega arith) (es .strict) (λ e t. es .range e t .low) (λ e t. es .range e t .high) in
+      rw h (record {
+        range = range-of _ (not-false _ (p .0)) (not-false _ (q .0));
+        rule = not-false _ (q .1);
+        strict = es .strict;
+        entries = es .range;
+        earlier = es .earlier;
+        count = omega arith;
+      })
+
+  fit-parts : (m : Mark) → Fit m → PartsPass (edition N) (fieldsOfMark m) (entryBytes (m .stamp))
+  unfolding fieldsOfMark fieldsBad
+  fit-parts m f = let r = f .range in record {
+    fields = rw (desk-test (m .id .desk) (r .low) (r .high), number-test (m .id .number) (r .first) (r .last), f .rule);
+    entries = rw (entries-back (m .stamp)) (entries-test (m .id .desk) (m .id .number) 0 (m .stamp)
+        (record { strict = f .strict; above = λ e t. f .entries e t .low; range = f .entries; earlier = f .earlier }));
+  }
+
+  -- "23 + 3·c".
+  abbrev pub markSize : Mark → ℕ
+  markSize m = 23 + 3 * length (m .stamp)
+
+  fit-writable : (m : Mark) → Fit m → (lent : ℕ) → markSize m ≤ lent → Writable (edition N) (fieldsOfMark m) (entryBytes (m .stamp)) lent
+  fit-writable m f lent h = let n = entry-bytes-length (m .stamp) in let c = f .count in record {
+    whole = omega arith;
+    few = omega arith;
+    parts = fit-parts m f;
+    fits = omega arith;
+  }
+
+  -- The writer refuses such a mark only for want of room.
+  pub fit-size : (m : Mark) → Fit m → (lent : ℕ) → sizeOfMark N m lent ≡ refuseIf (ltb lent (markSize m)) 13 (gives (markSize m))
+  unfolding sizeOfMark writeSize partBad outputShort
+  fit-size m f lent =
+      let p = fit-parts m f in
+      let c = f .count in
+      let w : 3 * length (m .stamp) % 3 ≡ 0 = omega arith in
+      let d : 3 * length (m .stamp) / 3 ≡ length (m .stamp) = omega arith in
+      rw (p .fields, p .entries, entry-bytes-length (m .stamp), w, d, le-ltb N (length (m .stamp)) c)
+
+  pub fit-frame-length : (m : Mark) → length (frameOfMark N m) ≡ markSize m
+  unfolding frameOfMark
+  fit-frame-length m = frame-length (edition N) refl (fieldsOfMark m) (entryBytes (m .stamp)) ∙ ap (λ (n : ℕ). 23 + n) (entry-bytes-length (m .stamp))
+
+  pub fit-read : (m : Mark) → Fit m → readFields (edition N) (frameOfMark N m) ≡ gives (fieldsOfMark m)
+  unfolding frameOfMark
+  fit-read m f = frame-read (edition N) refl (fieldsOfMark m) (entryBytes (m .stamp)) (markSize m) (fit-writable m f (markSize m) (omega arith)) .0
+
+  pub fit-entries : (m : Mark) → Fit m → entriesOf (readEntries (edition N) (frameOfMark N m)) ≡ m .stamp
+  unfolding frameOfMark
+  fit-entries m f = ap entriesOf (frame-read (edition N) refl (fieldsOfMark m) (entryBytes (m .stamp)) (markSize m) (fit-writable m f (markSize m) (omega arith)) .1) ∙ entries-back (m .stamp)
+
+  -- Its frame spells it.
+  pub fit-back : (m : Mark) → Fit m → markIn N (frameOfMark N m) ≡ m
+  unfolding markIn fieldsOfMark
+  fit-back m f =
+      let g : fieldsOf (frameOfMark N m) ≡ fieldsOfMark m = accepted (edition N) (frameOfMark N m) (fieldsOfMark m) (fit-read m f) .1 in
+      let e = fit-entries m f in
+      λ i. record { id = record { desk = g i .desk; number = g i .number .0 }; extent = g i .extent; stamp = e i }
+
+  -- "the same bytes": equal bytes are equal marks, and the mark that accepted bytes spell has these bytes.
+  pub equal-bytes : (h : Mark) (s : List ℕ) → Fit h → frameOfMark N h ≡ s → h ≡ markIn N s
+  equal-bytes h s f e = sym (fit-back h f) ∙ ap (markIn N) e
+
+  pub accepted-bytes : (s : List ℕ) (f : Fields) → AreBytes s → readFields (edition N) s ≡ gives f → frameOfMark N (markIn N s) ≡ s
+  unfolding frameOfMark markIn fieldsOfMark readEntries
+  accepted-bytes s f b h =
+      let a = accepted (edition N) s f h .0 in
+      let w : length (drop 23 s) % 3 ≡ 0 = rw length-drop (omega arith) in
+      rw (h, entry-bytes-back (drop 23 s) (λ i. rw (getD-drop) (b (23 + i))) w) (frame-back s b (edition N) refl a)
+
+  -- "the same bytes" is equality.
+  pub same-bytes : (a b : List ℕ) → T (sameBytes a b) → a ≡ b
+  same-bytes [] [] t = refl
+  same-bytes [] (y ∷ ys) t = absurd t
+  same-bytes (x ∷ xs) [] t = absurd t
+  same-bytes (x ∷ xs) (y ∷ ys) t =
+      let p : x ≡ y = eqb→eq x y (and-fst (eqb x y) (sameBytes xs ys) t) in
+      let q : xs ≡ ys = same-bytes xs ys (and-snd (eqb x y) (sameBytes xs ys) t) in
+      λ i. p i ∷ q i

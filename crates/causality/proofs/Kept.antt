@@ -1,0 +1,146 @@
+-- Every state that came from New and the calls, whatever bytes it was lent: what holds of it. Assumes nothing.
+use Prim.Native.Nat.{_+_, _≤_, suc, zero, ℕ}
+use borrow.Author.Tests.{eqb-false}
+use lib.Dec.{T}
+use lib.ListN.{length}
+use mathlib.Core.Bool.{Bool, false, true}
+use mathlib.Core.List.{List, _∷_}
+use mathlib.Core.Option.{Option, none, some}
+use mathlib.Core.Path.{_≡_, refl, subst}
+use native.Mathlib.Omega.{arith}
+use Rattle.frame.specs.declared.Fields.{Fields}
+use Rattle.frame.specs.declared.MarkBox.{MarkBox}
+use Rattle.frame.specs.Answer.{Answer, gives, refused}
+use Rattle.frame.specs.Frame.{edition, readFields}
+use Rattle.frame.specs.Mark.{MarkId, boxRule, isDesk, numbers}
+use Rattle.causality.specs.Answers.{Numbered}
+use Rattle.causality.specs.Calls.{Created, FromCalls, Received, created, earlier, empty, execute, executing, full, ifRead, mark, markAnswer, markIn, marked, new, newMark, receive, receiveMark, received, refuse, release, stateIf}
+use Rattle.causality.specs.Marks.{All, has, lowest, places, tally, without}
+use Rattle.causality.specs.State.{Mark, State, falseStamp, heads, ids, markId, ready}
+use Rattle.causality.proofs.Cases.{ReceiveCase, executes, mark-gives, receive-case, stays, waits}
+use Rattle.causality.proofs.Fit.{Fit, Range, desk-facts, frame-fit, strict-count}
+use Rattle.causality.proofs.Lists.{Picked, all-ids, all-map, lowest-picked, tally-length, without-all}
+use Rattle.causality.proofs.Numbers.{Strict, heads-strict}
+use Rattle.causality.proofs.Past.{Standing, counted, heads-has, prefix-le}
+use Rattle.causality.proofs.Reach.{ReachState, local, local-hist, mark-reach, receive-reach}
+use Rattle.causality.proofs.Room.{StillState, mark-still, receive-still}
+
+-- What holds of every mark holds of every mark after the release.
+pub release-all : (P : Mark → Type 0) (turns : ℕ) (l ws : List Mark) (k f : ℕ) → All P l → All P ws
+    → All P ((release turns l ws k f) .executed) × All P ((release turns l ws k f) .waiting)
+release-all P zero l ws k f a b = (a, b)
+release-all P (suc turns) l ws k f a b = go (lowest markId (ready l) ws) refl (release-all P turns)
+  where
+    go : (o : Option Mark) → lowest markId (ready l) ws ≡ o
+        → ((l ws : List Mark) (k f : ℕ) → All P l → All P ws → All P ((release turns l ws k f) .executed) × All P ((release turns l ws k f) .waiting))
+        → All P ((release (suc turns) l ws k f) .executed) × All P ((release (suc turns) l ws k f) .waiting)
+    go none e ih = rw (e, release) (a, b)
+    go (some w) e ih = by (falseStamp l w) refl
+      where
+        rest : All P (without markId (w .id) ws)
+        rest = all-map (λ v x. x .0) (without markId (w .id) ws) (without-all P (w .id) ws b)
+
+        pw : P w
+        pw = (subst (Picked P (ready l)) e (lowest-picked P (ready l) ws b)) .0
+
+        by : (c : Bool) → falseStamp l w ≡ c → All P ((release (suc turns) l ws k f) .executed) × All P ((release (suc turns) l ws k f) .waiting)
+        by true q = rw (e, release) (rw q (ih l (without markId (w .id) ws) k (suc f) a rest))
+        by false q = rw (e, release) (rw q (ih (w ∷ l) (without markId (w .id) ws) (suc k) f (pw, a) rest))
+
+module _ (N : ℕ) (some-desk : 1 ≤ N) where
+  pub record Kept (st : State) : Type 0 where
+    pub low : 1 ≤ st .own
+    pub high : st .own ≤ N
+    pub reach : ReachState st
+    pub still : StillState st
+    pub executed : All (Fit N) (st .executed)
+    pub waiting : All (Fit N) (st .waiting)
+
+  listed-range : (st : State) → Kept st → (i : MarkId) → T (has i (ids (st .executed))) → Range N i
+  listed-range st k = all-ids (Range N) (st .executed) (all-map (λ m f. f .range) (st .executed) (k .executed))
+
+  -- The new mark passes the writer's conditions 4 to 6.
+  pub new-fit : (st : State) (b : MarkBox) → Kept st → boxRule b ≡ true → full st ≡ false → Fit N (newMark st b)
+  unfolding newMark full
+  new-fit st b k rule room = record {
+    range = record { low = k .low; high = k .high; first = omega arith; last = last };
+    rule = rule;
+    strict = strict;
+    entries = range;
+    earlier = λ e t z. let a = (prefix-le (ids l) (counted past l h) e ((heads-has past l e t) .0)) .1 in
+        let c : e .number ≤ tally (st .own) (ids l) = subst (λ (n : ℕ). e .number ≤ tally n (ids l)) z a in omega arith;
+    count = let c = strict-count N 0 (heads l) (omega arith) strict (λ e t. range e t .low) (λ e t. range e t .high) in omega arith;
+  }
+    where
+      l : List Mark
+      l = st .executed
+
+      past : MarkId → List MarkId
+      past = local l
+
+      h : Standing past l
+      h = local-hist l (k .reach .sound)
+
+      strict : Strict (heads l)
+      strict = heads-strict past l h
+
+      range : (e : MarkId) → T (has e (heads l)) → Range N e
+      range e t = listed-range st k e ((heads-has past l e t) .0)
+
+      last : suc (tally (st .own) (ids l)) ≤ numbers
+      last =
+          let a = tally-length (st .own) l in
+          let c = k .still .room .total in
+          let n : ¬ (length l + length (st .waiting) ≡ places) = eqb-false _ _ room in
+          omega arith
+
+  pub mark-kept : (st : State) (b : MarkBox) (out : List ℕ) → Kept st → Kept ((mark N st b out) .state)
+  unfolding mark
+  mark-kept st b out k = go (markAnswer N st b (length out)) refl (mark-reach N st b out (k .reach)) (mark-still N st b out (k .reach) (k .still))
+    where
+      go : (a : Answer Numbered) → markAnswer N st b (length out) ≡ a → ReachState (stateIf a (execute (newMark st b) st) st) → StillState (stateIf a (execute (newMark st b) st) st)
+          → Kept (stateIf a (execute (newMark st b) st) st)
+      go (gives n) e r s =
+          let g = mark-gives N st b (length out) n e in
+          record { low = k .low; high = k .high; reach = r; still = s; executed = (new-fit st b k (g .rule) (g .room), k .executed); waiting = k .waiting }
+      go (refused c) e r s = k
+
+  pub receive-mark-kept : (st : State) (m : Mark) (s : List ℕ) → Fit N m → Kept st → Kept ((receiveMark N st m s) .state)
+  unfolding executing
+  receive-mark-kept st m s f k = go (receive-case N st m s)
+      (receive-reach N st m s (f .range .first) (λ e t. f .entries e t .first) (k .reach)) (receive-still N st m s (k .still))
+    where
+      go : {x : Received} → ReceiveCase st m x → ReachState (x .state) → StillState (x .state) → Kept (x .state)
+      go (stays a) r q = k
+      go (waits a b c) r q = record { low = k .low; high = k .high; reach = r; still = q; executed = k .executed; waiting = (f, k .waiting) }
+      go (executes a b c) r q =
+          let x = release-all (Fit N) (length (st .waiting)) (m ∷ st .executed) (st .waiting) 1 0 (f, k .executed) (k .waiting) in
+          record { low = k .low; high = k .high; reach = r; still = q; executed = x .0; waiting = x .1 }
+
+  pub receive-kept : (st : State) (s : List ℕ) → Kept st → Kept ((receive N st s) .state)
+  unfolding receive refuse
+  receive-kept st s k = go (readFields (edition N) s) refl
+    where
+      go : (a : Answer Fields) → readFields (edition N) s ≡ a → Kept ((ifRead a st (receiveMark N st (markIn N s) s)) .state)
+      go (gives f) e = receive-mark-kept st (markIn N s) s (frame-fit N s f e) k
+      go (refused c) e = k
+
+  empty-kept : (d : ℕ) → 1 ≤ d → d ≤ N → Kept (empty d)
+  empty-kept d p q = record {
+    low = p;
+    high = q;
+    reach = record { sound = tt; wait = tt };
+    still = record { room = record { total = omega arith; few = omega arith }; quiet = tt };
+    executed = tt;
+    waiting = tt;
+  }
+
+  pub kept : {st : State} → FromCalls N st → Kept st
+  unfolding new
+  kept (created d) = go (isDesk N d) refl
+    where
+      go : (b : Bool) → isDesk N d ≡ b → Kept ((elim b as (λ x. Created) [ true ↦ record { state = empty d; answer = gives d } | false ↦ record { state = empty 1; answer = refused 1 } ]) .state)
+      go true e = let p = desk-facts N d e in empty-kept d (p .0) (p .1)
+      go false e = empty-kept 1 (omega arith) some-desk
+  kept (marked c b out) = mark-kept _ b out (kept c)
+  kept (received c s) = receive-kept _ s (kept c)

@@ -1,0 +1,14 @@
+pub mod Logic
+pub mod Lists
+pub mod Past
+pub mod Numbers
+pub mod Cases
+pub mod Reach
+pub mod Room
+pub mod Rows
+pub mod Heads
+pub mod Fit
+pub mod Kept
+pub mod RowLaws
+pub mod Examples
+pub mod Laws

@@ -1,0 +1,272 @@
+-- Any desk from New, Mark and Receive, whatever frames it was lent.
+use Prim.Native.Nat.{_-_, _<_, _≤_, suc, zero, ℕ}
+use lib.Dec.{T, T-not, eqb, eqb-refl, leb, ltb, lt→ltb, nltb→le, not-T}
+use lib.ListN.{length}
+use mathlib.Core.Bool.{Bool, _&&_, _||_, false, not, true}
+use mathlib.Core.List.{List, [], _++_, _∷_}
+use mathlib.Core.Logic.{_⊎_, inl, inr}
+use mathlib.Core.Option.{Option, none, some}
+use mathlib.Core.Path.{_∙_, _≡_, ap, refl, subst, sym}
+use native.Mathlib.Omega.{arith}
+use Rattle.frame.specs.declared.MarkBox.{MarkBox}
+use Rattle.frame.specs.Answer.{Answer, gives, refused}
+use Rattle.frame.specs.Mark.{MarkId}
+use Rattle.causality.specs.Answers.{Numbered}
+use Rattle.causality.specs.Calls.{Received, execute, executing, mark, markAnswer, newMark, receiveMark, release, stateIf, unmade}
+use Rattle.causality.specs.Marks.{All, all, any, has, keep, lowest, same, tally, without}
+use Rattle.causality.specs.State.{Mark, State, falseStamp, heads, ids, markId, precedes, previous, ready}
+use Rattle.causality.proofs.Cases.{Arrives, ReceiveCase, executes, receive-case, stays, waits}
+use Rattle.causality.proofs.Lists.{Picked, absent-all, all-at, all-map, any-cong, any-find, any-of, find-has, has-append, has-keep, has-self, ids-append, keep-has, lowest-picked, nor-fst, nor-snd, without-all}
+use Rattle.causality.proofs.Logic.{T→eq, and-fst, and-intro, bool-ext, nT→eq, or-cases, or-inl, or-inr, same-refl, same→eq, split}
+use Rattle.causality.proofs.Numbers.{ready-next}
+use Rattle.causality.proofs.Past.{Counted, Good, Standing, fresh-of, has-heads, head-in, head-out, heads-has, prefix-has, top-exists}
+
+pub record Follows (m : Mark) (older : List Mark) : Type 0 where
+  pub next : m .id .number ≡ suc (tally (m .id .desk) (ids older))
+  pub listed : (e : MarkId) → T (has e (m .stamp)) → T (has e (ids older))
+  pub clear : (e f : MarkId) → T (has e (m .stamp)) → T (has f (m .stamp)) → T (precedes older e f) → ⊥
+  pub prev : 1 < m .id .number → T (any (λ e. same (previous (m .id)) e || precedes older (previous (m .id)) e) (m .stamp))
+
+abbrev pub Sound : List Mark → Type 0
+Sound [] = Unit {0}
+Sound (m ∷ older) = Follows m older × Sound older
+
+pub sound-counted : (l : List Mark) → Sound l → Counted (ids l)
+sound-counted [] s = tt
+sound-counted (m ∷ older) s = (s .0 .next, sound-counted older (s .1))
+
+-- `precedes` of a longer list
+pub precedes-at : (m : Mark) (older : List Mark) (a b : MarkId) → T (same b (m .id)) → precedes (m ∷ older) a b ≡ any (λ e. same a e || precedes older a e) (m .stamp)
+precedes-at m older a b t = rw (T→eq (same b (m .id)) t, precedes)
+
+pub precedes-old : (m : Mark) (older : List Mark) (a b : MarkId) → T (not (same b (m .id))) → precedes (m ∷ older) a b ≡ precedes older a b
+precedes-old m older a b t = rw (nT→eq (same b (m .id)) t, precedes)
+
+pub not-new : (m : Mark) (older : List Mark) → Sound (m ∷ older) → (b : MarkId) → T (has b (ids older)) → T (not (same b (m .id)))
+not-new m older s b t = not-T (same b (m .id)) (λ u. fresh-of (m .id) (ids older) (sound-counted (m ∷ older) s) (rw (same→eq b (m .id) u) at t))
+
+pub precedes-listed : (l : List Mark) → Sound l → (a b : MarkId) → T (precedes l a b) → T (has a (ids l)) × T (has b (ids l))
+precedes-listed [] s a b t = absurd t
+precedes-listed (m ∷ older) s a b t = go (split (same b (m .id))) (precedes-listed older (s .1) a)
+  where
+    up : (i : MarkId) → T (has i (ids older)) → T (has i (ids (m ∷ older)))
+    up i = or-inr (same i (m .id)) (has i (ids older))
+
+    go : T (same b (m .id)) ⊎ T (not (same b (m .id))) → ((b : MarkId) → T (precedes older a b) → T (has a (ids older)) × T (has b (ids older))) → T (has a (ids (m ∷ older))) × T (has b (ids (m ∷ older)))
+    go (inl u) ih =
+        let r = any-find (λ e. same a e || precedes older a e) (m .stamp) (rw (precedes-at m older a b u) at t) in (
+          elim (or-cases (same a (r .0)) (precedes older a (r .0)) (r .2)) [
+            | inl e ↦ up a (rw (same→eq a (r .0) e) (s .0 .listed (r .0) (r .1)))
+            | inr n ↦ up a ((ih (r .0) n) .0)
+          ],
+          or-inl (same b (m .id)) (has b (ids older)) u,
+        )
+    go (inr u) ih = let r = ih b (rw (precedes-old m older a b u) at t) in (up a (r .0), up b (r .1))
+
+pub precedes-trans : (l : List Mark) → Sound l → (a b c : MarkId) → T (precedes l a b) → T (precedes l b c) → T (precedes l a c)
+precedes-trans [] s a b c p q = absurd p
+precedes-trans (m ∷ older) s a b c p q = go (split (same c (m .id))) (precedes-trans older (s .1) a b)
+  where
+    down : T (has b (ids older)) → T (precedes older a b)
+    down t = rw (precedes-old m older a b (not-new m older s b t)) at p
+
+    go : T (same c (m .id)) ⊎ T (not (same c (m .id))) → ((c : MarkId) → T (precedes older a b) → T (precedes older b c) → T (precedes older a c)) → T (precedes (m ∷ older) a c)
+    go (inl u) ih =
+        let r = any-find (λ e. same b e || precedes older b e) (m .stamp) (rw (precedes-at m older b c u) at q) in
+        let k : T (precedes older a (r .0)) = elim (or-cases (same b (r .0)) (precedes older b (r .0)) (r .2)) [
+          | inl e ↦ rw (same→eq b (r .0) e) at (down (rw (same→eq b (r .0) e) (s .0 .listed (r .0) (r .1))))
+          | inr n ↦ ih (r .0) (down ((precedes-listed older (s .1) b (r .0) n) .0)) n
+        ] in
+        rw (precedes-at m older a c u) (any-of (λ e. same a e || precedes older a e) (m .stamp) (r .0) (r .1) (or-inr (same a (r .0)) (precedes older a (r .0)) k))
+    go (inr u) ih =
+        let n : T (precedes older b c) = rw (precedes-old m older b c u) at q in
+        rw (precedes-old m older a c u) (ih c (down ((precedes-listed older (s .1) b c n) .0)) n)
+
+-- a sound desk has pasts: the chains themselves
+pub sound-hist : (past : MarkId → List MarkId) (l : List Mark) → Sound l
+    → ((a b : MarkId) → T (has b (ids l)) → has a (past b) ≡ precedes l a b) → Standing past l
+sound-hist past [] s ag = tt
+sound-hist past (m ∷ older) s ag = (record { good = good; next = f .next; behind = behind }, sound-hist past older (s .1) ag′)
+  where
+    f : Follows m older
+    f = s .0
+
+    new : (a : MarkId) → has a (past (m .id)) ≡ any (λ e. same a e || precedes older a e) (m .stamp)
+    new a = ag a (m .id) (has-self (m .id) (ids older)) ∙ precedes-at m older a (m .id) (same-refl (m .id))
+
+    ag′ : (a b : MarkId) → T (has b (ids older)) → has a (past b) ≡ precedes older a b
+    ag′ a b t = ag a b (or-inr (same b (m .id)) (has b (ids older)) t) ∙ precedes-old m older a b (not-new m older s b t)
+
+    behind : (a : MarkId) → T (has a (past (m .id))) → T (has a (ids older))
+    behind a t =
+        let r = any-find (λ e. same a e || precedes older a e) (m .stamp) (rw (new a) at t) in
+        elim (or-cases (same a (r .0)) (precedes older a (r .0)) (r .2)) [
+          | inl e ↦ rw (same→eq a (r .0) e) (f .listed (r .0) (r .1))
+          | inr n ↦ (precedes-listed older (s .1) a (r .0) n) .0
+        ]
+
+    last : (e j : MarkId) → T (has e (m .stamp)) → T (has j (past (m .id))) → T (has e (past j)) → ⊥
+    last e j te tj u =
+        let r = any-find (λ g. same j g || precedes older j g) (m .stamp) (rw (new j) at tj) in
+        let b : T (precedes older e j) = rw (ag′ e j (behind j tj)) at u in
+        elim (or-cases (same j (r .0)) (precedes older j (r .0)) (r .2)) [
+          | inl q ↦ f .clear e (r .0) te (r .1) (rw (same→eq j (r .0) q) at b)
+          | inr n ↦ f .clear e (r .0) te (r .1) (precedes-trans older (s .1) e j (r .0) b n)
+        ]
+
+    good : Good past m
+    good = record {
+      entry = λ e t. rw (new e) (any-of (λ g. same e g || precedes older e g) (m .stamp) e t (or-inl (same e e) (precedes older e e) (same-refl e)));
+      cover = λ a t. rw (any-cong (λ e. same a e || has a (past e)) (λ e. same a e || precedes older a e) (m .stamp) (λ e te. ap (λ (b : Bool). same a e || b) (ag′ a e (f .listed e te)))) (rw (new a) at t);
+      last = last;
+      prev = λ n. rw (new (previous (m .id))) (f .prev n);
+      down = λ e a te ta.
+          let eb : T (precedes (m ∷ older) e (m .id)) = rw (ag e (m .id) (has-self (m .id) (ids older))) at te in
+          let oe = behind e te in
+          let ab : T (precedes (m ∷ older) a e) = rw (precedes-old m older a e (not-new m older s e oe), ← ag′ a e oe) ta in
+          rw (ag a (m .id) (has-self (m .id) (ids older))) (precedes-trans (m ∷ older) s a e (m .id) ab eb);
+      pos = let n = f .next in omega arith;
+    }
+
+-- the chains as pasts
+abbrev pub local : List Mark → MarkId → List MarkId
+local l b = keep (λ a. precedes l a b) (ids l)
+
+pub local-precedes : (l : List Mark) → Sound l → (a b : MarkId) → has a (local l b) ≡ precedes l a b
+local-precedes l s a b = bool-ext (has a (local l b)) (precedes l a b) (λ t. (keep-has (λ a. precedes l a b) (ids l) a t) .1)
+    (λ t. has-keep (λ a. precedes l a b) (ids l) a ((precedes-listed l s a b t) .0) t)
+
+pub local-hist : (l : List Mark) → Sound l → Standing (local l) l
+local-hist l s = sound-hist (local l) l s (λ a b t. local-precedes l s a b)
+
+pub mark-sound : (d : State) (box : MarkBox) → Sound (d .executed) → Follows (newMark d box) (d .executed)
+unfolding newMark previous
+mark-sound d box s = record {
+  next = refl;
+  listed = λ e t. (heads-has past l e t) .0;
+  clear = λ e f te tf u. head-out past l h e ((heads-has past l e te) .1) f ((heads-has past l f tf) .0) (rw (local-precedes l s e f) u);
+  prev = λ n.
+      let p : MarkId = record { desk = d .own; number = suc (tally (d .own) (ids l)) - 1 } in
+      let r = top-exists past l h p (prefix-has (ids l) (sound-counted l s) p (omega arith) (omega arith)) in
+      any-of (λ e. same p e || precedes l p e) (heads l) (r .top) (has-heads past l (r .top) (r .listed) (head-in past l h (r .top) (r .last)))
+      (rw (← local-precedes l s p (r .top)) (r .below));
+}
+  where
+    l : List Mark
+    l = d .executed
+
+    past : MarkId → List MarkId
+    past = local l
+
+    h : Standing past l
+    h = local-hist l s
+
+pub follows-of : (l : List Mark) (m : Mark) → Sound l → 1 ≤ m .id .number → T (not (has (m .id) (ids l))) → T (ready l m) → falseStamp l m ≡ false → Follows m l
+unfolding ready falseStamp
+follows-of l m s p n t e = record {
+  next = ready-next l m (sound-counted l s) p n t;
+  listed = all-at (λ e. has e (ids l)) (m .stamp) (and-fst (all (λ e. has e (ids l)) (m .stamp)) (leb (m .id .number) 1 || has (previous (m .id)) (ids l)) t);
+  clear = λ a b ta tb u. T-not one (nor-fst one two no-false) (any-of (λ e. any (λ f. precedes l e f) (m .stamp)) (m .stamp) a ta (any-of (λ f. precedes l a f) (m .stamp) b tb u));
+  prev = λ q. elim (split pr) [ inl x ↦ x | inr x ↦ absurd (T-not two (nor-snd one two no-false) (and-intro (ltb 1 (m .id .number)) (not pr) (lt→ltb 1 (m .id .number) q) x)) ];
+}
+  where
+    pr : Bool
+    pr = any (λ e. same (previous (m .id)) e || precedes l (previous (m .id)) e) (m .stamp)
+
+    one : Bool
+    one = any (λ e. any (λ f. precedes l e f) (m .stamp)) (m .stamp)
+
+    two : Bool
+    two = ltb 1 (m .id .number) && not pr
+
+    no-false : T (not (one || two))
+    no-false = rw e tt
+
+-- own: the desk's number. A mark of this desk never waits
+module _ (own : ℕ) where
+  pub record Wait (l : List Mark) (w : Mark) : Type 0 where
+    pub pos : 1 ≤ w .id .number
+    pub fresh : T (not (has (w .id) (ids l)))
+    pub away : w .id .desk ≡ own → ⊥
+    pub asks : (e : MarkId) → T (has e (w .stamp)) → e .desk ≡ own → T (has e (ids l))
+
+  -- what every desk is
+  pub record Reach (l ws : List Mark) : Type 0 where
+    pub sound : Sound l
+    pub wait : All (Wait l) ws
+
+  grown : (l ws : List Mark) (w : Mark) → Follows w l → Sound l → All (λ v. Wait l v × T (not (same (w .id) (v .id)))) ws → Reach (w ∷ l) ws
+  grown l ws w f s a = record { sound = (f, s); wait = all-map (λ v x. record { pos = x .0 .pos; fresh = other v x; away = x .0 .away; asks = λ e te q. or-inr (same e (w .id)) (has e (ids l)) (x .0 .asks e te q) }) ws a }
+    where
+      other : (v : Mark) → Wait l v × T (not (same (w .id) (v .id))) → T (not (has (v .id) (w .id ∷ ids l)))
+      other v x = not-T (has (v .id) (w .id ∷ ids l)) (λ u. elim (or-cases (same (v .id) (w .id)) (has (v .id) (ids l)) u) [
+        | inl e ↦ T-not (same (w .id) (v .id)) (x .1) (rw (same→eq (v .id) (w .id) e) (same-refl (w .id)))
+        | inr n ↦ T-not (has (v .id) (ids l)) (x .0 .fresh) n
+      ])
+
+  pub release-reach : (turns : ℕ) (l ws : List Mark) (k f : ℕ) → Reach l ws → Reach ((release turns l ws k f) .executed) ((release turns l ws k f) .waiting)
+  release-reach zero l ws k f r = r
+  release-reach (suc turns) l ws k f r = go (lowest markId (ready l) ws) refl (release-reach turns)
+    where
+      go : (o : Option Mark) → lowest markId (ready l) ws ≡ o
+          → ((l ws : List Mark) (k f : ℕ) → Reach l ws → Reach ((release turns l ws k f) .executed) ((release turns l ws k f) .waiting))
+          → Reach ((release (suc turns) l ws k f) .executed) ((release (suc turns) l ws k f) .waiting)
+      go none e ih = rw (e, release) r
+      go (some w) e ih = by (falseStamp l w) refl
+        where
+          a : All (λ v. Wait l v × T (not (same (w .id) (v .id)))) (without markId (w .id) ws)
+          a = without-all (Wait l) (w .id) ws (r .wait)
+
+          pk : Wait l w × T (ready l w)
+          pk = subst (Picked (Wait l) (ready l)) e (lowest-picked (Wait l) (ready l) ws (r .wait))
+
+          by : (b : Bool) → falseStamp l w ≡ b → Reach ((release (suc turns) l ws k f) .executed) ((release (suc turns) l ws k f) .waiting)
+          by true q = rw (e, release) (rw q (ih l (without markId (w .id) ws) k (suc f) (record { sound = r .sound; wait = all-map (λ v x. x .0) (without markId (w .id) ws) a })))
+          by false q = rw (e, release) (rw q (ih (w ∷ l) (without markId (w .id) ws) (suc k) f (grown l (without markId (w .id) ws) w (follows-of l w (r .sound) (pk .0 .pos) (pk .0 .fresh) (pk .1) q) (r .sound) a)))
+
+abbrev pub ReachState : State → Type 0
+ReachState d = Reach (d .own) (d .executed) (d .waiting)
+
+pub mark-reach : (N : ℕ) (d : State) (b : MarkBox) (out : List ℕ) → ReachState d → ReachState ((mark N d b out) .state)
+unfolding mark newMark
+mark-reach N d b out r = go (markAnswer N d b (length out))
+  where
+    new : Reach (d .own) (newMark d b ∷ d .executed) (d .waiting)
+    new = grown (d .own) (d .executed) (d .waiting) (newMark d b) (mark-sound d b (r .sound)) (r .sound)
+        (all-map (λ v x. (x, not-T (same ((newMark d b) .id) (v .id)) (λ t. x .away (sym (ap (λ (i : MarkId). i .desk) (same→eq ((newMark d b) .id) (v .id) t)))))) (d .waiting) (r .wait))
+
+    go : (a : Answer Numbered) → ReachState (stateIf a (execute (newMark d b) d) d)
+    go (gives n) = new
+    go (refused c) = r
+
+pub receive-reach : (N : ℕ) (d : State) (m : Mark) (s : List ℕ) → 1 ≤ m .id .number → ((e : MarkId) → T (has e (m .stamp)) → 1 ≤ e .number) → ReachState d
+    → ReachState ((receiveMark N d m s) .state)
+unfolding executing unmade
+receive-reach N d m s p pe r = go (receive-case N d m s)
+  where
+    absent : Arrives d m → T (not (has (m .id) (ids (d .executed)) || has (m .id) (ids (d .waiting))))
+    absent a = rw (← has-append (m .id) (ids (d .executed)) (ids (d .waiting)), ← ids-append (d .executed) (d .waiting), find-has (m .id) (d .executed ++ d .waiting), a .absent) tt
+
+    here : T (not (has (m .id) (ids (d .executed)) || has (m .id) (ids (d .waiting)))) → T (not (has (m .id) (ids (d .executed))))
+    here n = nor-fst (has (m .id) (ids (d .executed))) (has (m .id) (ids (d .waiting))) n
+
+    made : (i : MarkId) → 1 ≤ i .number → T (not (unmade d i)) → i .desk ≡ d .own → T (has i (ids (d .executed)))
+    made i pi n q = elim (split (ltb (tally (d .own) (ids (d .executed))) (i .number))) [
+      | inl x ↦ absurd (T-not (unmade d i) n (and-intro (eqb (i .desk) (d .own)) (ltb (tally (d .own) (ids (d .executed))) (i .number)) (subst (λ (k : ℕ). T (eqb (i .desk) k)) q (eqb-refl (i .desk))) x))
+      | inr x ↦ prefix-has (ids (d .executed)) (sound-counted (d .executed) (r .sound)) i pi (subst (λ (k : ℕ). i .number ≤ tally k (ids (d .executed))) (sym q) (nltb→le (tally (d .own) (ids (d .executed))) (i .number) x))
+    ]
+
+    wait : Arrives d m → Wait (d .own) (d .executed) m
+    wait a = record {
+      pos = p;
+      fresh = here (absent a);
+      away = λ q. T-not (has (m .id) (ids (d .executed))) (here (absent a)) (made (m .id) p (nor-fst (unmade d (m .id)) (any (unmade d) (m .stamp)) (rw (a .made) tt)) q);
+      asks = λ e te q. made e (pe e te) (not-T (unmade d e) (λ u. T-not (any (unmade d) (m .stamp)) (nor-snd (unmade d (m .id)) (any (unmade d) (m .stamp)) (rw (a .made) tt)) (any-of (unmade d) (m .stamp) e te u))) q;
+    }
+
+    go : {r : Received} → ReceiveCase d m r → ReachState (r .state)
+    go (stays a) = r
+    go (waits a b c) = record { sound = r .sound; wait = (wait a, r .wait) }
+    go (executes a b c) = release-reach (d .own) (length (d .waiting)) (m ∷ d .executed) (d .waiting) 1 0
+        (grown (d .own) (d .executed) (d .waiting) m (follows-of (d .executed) m (r .sound) p (here (absent a)) (rw b tt) c) (r .sound)
+        (absent-all (Wait (d .own) (d .executed)) (m .id) (d .waiting) (nor-snd (has (m .id) (ids (d .executed))) (has (m .id) (ids (d .waiting))) (absent a)) (r .wait)))

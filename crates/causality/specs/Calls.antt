@@ -1,0 +1,235 @@
+-- The seven calls of document 01, as functions of the state, of bytes and of lent memory. Conditions by rising number.
+use mathlib.Core.Bool.{Bool, true, false, not, _&&_, _||_}
+use mathlib.Core.List.{List, [], _∷_, _++_, reverse}
+use mathlib.Core.Option.{Option, none, some}
+use Prim.Native.Nat.{ℕ, zero, suc, _+_, min}
+use lib.Dec.{ltb, eqb}
+use lib.ListN.{length}
+use Rattle.frame.specs.Answer.{Answer, gives, refused, refuseIf}
+use Rattle.frame.specs.Mark.{MarkId, isDesk, boxRule}
+use Rattle.frame.specs.Frame.{edition, entriesOf, entryBytes, fieldsOf, frameOf, readFields, readEntries, writeSize, overIf}
+use Rattle.frame.specs.declared.Fields.{Fields}
+use Rattle.frame.specs.declared.MarkBox.{MarkBox}
+use Rattle.causality.specs.Answers.{Numbered, Reception, Known, Waiting, Executed, Relation, Same, Before, After, Concurrent}
+use Rattle.causality.specs.Marks.{places, waitingPlaces, same, any, all, keep, has, tally, find, without, lowest}
+use Rattle.causality.specs.State.{Mark, markId, State, ids, precedes, concurrent, heads, ready, falseStamp}
+
+-- NEW
+
+abbrev pub empty : ℕ → State
+empty d = record { own = d; executed = []; waiting = [] }
+
+pub record Created : Type 0 where
+  pub state : State
+  pub answer : Answer ℕ
+
+-- "a desk number gives an empty desk"; "A refused New gives an empty desk 1 beside the 1."
+unfoldable pub new : ℕ → ℕ → Created
+new N d = elim (isDesk N d) [ true ↦ record { state = empty d; answer = gives d } | false ↦ record { state = empty 1; answer = refused 1 } ]
+
+-- FRAMES OF MARKS
+
+unfoldable pub fieldsOfMark : Mark → Fields
+fieldsOfMark m = record { desk = m .id .desk; number = record { 0 = m .id .number }; extent = m .extent }
+
+unfoldable pub frameOfMark : ℕ → Mark → List ℕ
+frameOfMark N m = frameOf (edition N) (fieldsOfMark m) (entryBytes (m .stamp))
+
+-- "written as by the writer; its size is returned".
+unfoldable pub sizeOfMark : ℕ → Mark → ℕ → Answer ℕ
+sizeOfMark N m lent = writeSize (edition N) (fieldsOfMark m) (entryBytes (m .stamp)) lent
+
+-- The mark that a frame spells.
+unfoldable pub markIn : ℕ → List ℕ → Mark
+markIn N s = record {
+  id = record { desk = fieldsOf s .desk; number = fieldsOf s .number .0 };
+  extent = fieldsOf s .extent;
+  stamp = entriesOf (readEntries (edition N) s);
+}
+
+-- MARK
+
+-- "executed + waiting = 512".
+unfoldable pub full : State → Bool
+full st = eqb (length (st .executed) + length (st .waiting)) places
+
+-- "a box becomes this desk's next number, stamped with the heads".
+unfoldable pub newMark : State → MarkBox → Mark
+newMark st b = record {
+  id = record { desk = st .own; number = suc (tally (st .own) (ids (st .executed))) };
+  extent = b;
+  stamp = heads (st .executed);
+}
+
+-- "its number and the frame's size are returned".
+abbrev pub numbered : ℕ → Answer ℕ → Answer Numbered
+numbered n (gives size) = gives (record { number = n; size = size })
+numbered n (refused c) = refused c
+
+unfoldable pub markAnswer : ℕ → State → MarkBox → ℕ → Answer Numbered
+markAnswer N st b lent =
+    refuseIf (not (boxRule b)) 5 (refuseIf (full st) 9
+    (numbered (newMark st b .id .number) (sizeOfMark N (newMark st b) lent)))
+
+-- A refusal "leaves desk and lent memory as found".
+abbrev pub stateIf : {A : Type 0} → Answer A → State → State → State
+stateIf (gives a) after st = after
+stateIf (refused c) after st = st
+
+abbrev pub execute : Mark → State → State
+execute m st = record { own = st .own; executed = m ∷ st .executed; waiting = st .waiting }
+
+pub record Marked : Type 0 where
+  pub state : State
+  pub answer : Answer Numbered
+  pub bytes : List ℕ
+
+-- The mark is executed, "its frame is written out as by the writer"; "It releases no waiting mark."
+unfoldable pub mark : ℕ → State → MarkBox → List ℕ → Marked
+mark N st b out = record {
+  state = stateIf (markAnswer N st b (length out)) (execute (newMark st b) st) st;
+  answer = markAnswer N st b (length out);
+  bytes = overIf (markAnswer N st b (length out)) (frameOfMark N (newMark st b)) out;
+}
+
+-- RECEIVE
+
+pub record Received : Type 0 where
+  pub state : State
+  pub answer : Answer Reception
+
+unfoldable pub refuse : State → ℕ → Received
+refuse st c = record { state = st; answer = refused c }
+
+-- What the release has come to: k executed and f dropped.
+pub record Release : Type 0 where
+  pub executed : List Mark
+  pub waiting : List Mark
+  pub k : ℕ
+  pub f : ℕ
+
+-- "the ready waiting mark of lowest desk is executed, or dropped if its stamp is false; repeat until none is ready". Each
+-- turn takes a waiting mark, so as many turns as marks wait are enough.
+abbrev pub release : ℕ → List Mark → List Mark → ℕ → ℕ → Release
+release zero executed waiting k f = record { executed = executed; waiting = waiting; k = k; f = f }
+release (suc turns) executed waiting k f =
+    elim (lowest markId (ready executed) waiting) [
+      | none ↦ record { executed = executed; waiting = waiting; k = k; f = f }
+      | some w ↦ elim (falseStamp executed w) [
+        | true ↦ release turns executed (without markId (w .id) waiting) k (suc f)
+        | false ↦ release turns (w ∷ executed) (without markId (w .id) waiting) (suc k) f
+      ]
+    ]
+
+-- "k counts all executed by the call, f the dropped".
+unfoldable pub executing : State → Mark → Received
+executing st m =
+    let r = release (length (st .waiting)) (m ∷ st .executed) (st .waiting) 1 0 in
+    record { state = record { own = st .own; executed = r .executed; waiting = r .waiting }; answer = gives (Executed (r .k) (r .f)) }
+
+-- A mark that is neither executed nor waiting here: 9; "not ready, 64 waiting": 10; "ready, false stamp": 11.
+unfoldable pub arrive : State → Mark → Received
+arrive st m =
+    elim (full st) [
+      | true ↦ refuse st 9
+      | false ↦ elim (ready (st .executed) m) [
+        | false ↦ elim (eqb (length (st .waiting)) waitingPlaces) [
+          | true ↦ refuse st 10
+          | false ↦ record { state = record { own = st .own; executed = st .executed; waiting = m ∷ st .waiting }; answer = gives Waiting }
+        ]
+        | true ↦ elim (falseStamp (st .executed) m) [ true ↦ refuse st 11 | false ↦ executing st m ]
+      ]
+    ]
+
+-- 7: "of this desk and not yet made".
+unfoldable pub unmade : State → MarkId → Bool
+unmade st i = eqb (i .desk) (st .own) && ltb (tally (st .own) (ids (st .executed))) (i .number)
+
+abbrev pub sameBytes : List ℕ → List ℕ → Bool
+sameBytes [] [] = true
+sameBytes [] (b ∷ bs) = false
+sameBytes (a ∷ as′) [] = false
+sameBytes (a ∷ as′) (b ∷ bs) = eqb a b && sameBytes as′ bs
+
+-- "Known (executed or waiting here with the same bytes)"; 8: "same mark executed or waiting with other bytes".
+unfoldable pub receiveMark : ℕ → State → Mark → List ℕ → Received
+receiveMark N st m s =
+    elim (unmade st (m .id) || any (unmade st) (m .stamp)) [
+      | true ↦ refuse st 7
+      | false ↦ elim (find markId (m .id) (st .executed ++ st .waiting)) [
+        | none ↦ arrive st m
+        | some h ↦ elim (sameBytes (frameOfMark N h) s) [ true ↦ record { state = st; answer = gives Known } | false ↦ refuse st 8 ]
+      ]
+    ]
+
+abbrev pub ifRead : Answer Fields → State → Received → Received
+ifRead (gives f) st r = r
+ifRead (refused c) st r = refuse st c
+
+unfoldable pub receive : ℕ → State → List ℕ → Received
+receive N st s = ifRead (readFields (edition N) s) st (receiveMark N st (markIn N s) s)
+
+-- QUERIES: the state stays as it is
+
+abbrev pub isExecuted : State → MarkId → Bool
+isExecuted st i = has i (ids (st .executed))
+
+unfoldable pub relate : State → MarkId → MarkId → Answer Relation
+relate st a b =
+    refuseIf (not (isExecuted st a && isExecuted st b)) 12 (gives
+    (elim (same a b) [
+      | true ↦ Same
+      | false ↦ elim (precedes (st .executed) a b) [
+        | true ↦ Before
+        | false ↦ elim (precedes (st .executed) b a) [ true ↦ After | false ↦ Concurrent ]
+      ]
+    ]))
+
+-- "the executed marks concurrent with a given one, by place".
+unfoldable pub apartOf : State → MarkId → List MarkId
+apartOf st a = reverse (keep (concurrent (st .executed) a) (ids (st .executed)))
+
+-- "The count is returned": with so many lent pairs.
+unfoldable pub apartCount : State → MarkId → ℕ → Answer ℕ
+apartCount st a lent =
+    refuseIf (not (isExecuted st a)) 12 (refuseIf (ltb lent (length (apartOf st a))) 13 (gives (length (apartOf st a))))
+
+-- "a lent run of pairs ..; pairs beyond it keep their values".
+unfoldable pub apartPairs : State → MarkId → List MarkId → List MarkId
+apartPairs st a pairs = overIf (apartCount st a (length pairs)) (apartOf st a) pairs
+
+-- The names behind a: those of the marks "executed here before the mark".
+abbrev pub earlier : MarkId → List MarkId → List MarkId
+earlier a [] = []
+earlier a (i ∷ is) = elim (same a i) [ true ↦ is | false ↦ earlier a is ]
+
+-- The lowest of two numbers of which 0 is none, and the lowest number of desk d's marks.
+abbrev pub lowestOf : ℕ → ℕ → ℕ
+lowestOf n zero = n
+lowestOf n (suc m) = min n (suc m)
+
+abbrev pub lowestNumber : ℕ → List MarkId → ℕ
+lowestNumber d [] = 0
+lowestNumber d (i ∷ is) = elim (eqb d (i .desk)) [ true ↦ lowestOf (i .number) (lowestNumber d is) | false ↦ lowestNumber d is ]
+
+-- "the lowest number of that desk's marks executed here before the mark and concurrent with it; 0 if none (the paper's cache)".
+unfoldable pub firstApart : ℕ → State → MarkId → ℕ → Answer ℕ
+firstApart N st a d =
+    refuseIf (not (isDesk N d)) 1 (refuseIf (not (isExecuted st a)) 12
+    (gives (lowestNumber d (keep (concurrent (st .executed) a) (earlier a (ids (st .executed)))))))
+
+-- "the frame of an executed mark, written as by the writer; its size is returned".
+unfoldable pub frameAgainSize : ℕ → State → MarkId → ℕ → Answer ℕ
+frameAgainSize N st a lent = elim (find markId a (st .executed)) [ none ↦ refused 12 | some m ↦ sizeOfMark N m lent ]
+
+unfoldable pub frameAgainBytes : ℕ → State → MarkId → List ℕ → List ℕ
+frameAgainBytes N st a out =
+    elim (find markId a (st .executed)) [ none ↦ out | some m ↦ overIf (sizeOfMark N m (length out)) (frameOfMark N m) out ]
+
+-- WHERE A DESK COMES FROM
+
+-- "A desk comes only from New and these calls", whatever bytes it was lent. The queries give the desk that they took.
+pub data FromCalls (N : ℕ) : State → Type 0 where
+  created : (d : ℕ) → FromCalls N (new N d .state)
+  marked : {st : State} → FromCalls N st → (b : MarkBox) (out : List ℕ) → FromCalls N (mark N st b out .state)
+  received : {st : State} → FromCalls N st → (s : List ℕ) → FromCalls N (receive N st s .state)

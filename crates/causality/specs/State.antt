@@ -1,0 +1,67 @@
+-- One desk as document 01 says it, on lists: its marks, precedence, heads, ready marks and false stamps.
+use mathlib.Core.Bool.{Bool, true, false, not, _&&_, _||_}
+use mathlib.Core.List.{List, [], _∷_}
+use Prim.Native.Nat.{ℕ, _-_}
+use lib.Dec.{T, leb, ltb}
+use Rattle.frame.specs.Mark.{MarkId}
+use Rattle.frame.specs.declared.MarkBox.{MarkBox}
+use Rattle.causality.specs.Marks.{same, any, all, keep, has, rising}
+
+-- A mark (operation) with its box and its stamp. A stamp is the paper's direct causal vector (Definition 4).
+pub record Mark : Type 0 where
+  pub id : MarkId
+  pub extent : MarkBox
+  pub stamp : List MarkId
+
+abbrev pub markId : Mark → MarkId
+markId m = m .id
+
+-- What a desk (site) is: its own number, its executed marks (the history buffer), newest first, and its waiting ones. The
+-- place of an executed mark, the paper's E_SEQ, is the count of the marks behind it.
+pub record State : Type 0 where
+  pub own : ℕ
+  pub executed : List Mark
+  pub waiting : List Mark
+
+abbrev pub ids : List Mark → List MarkId
+ids [] = []
+ids (m ∷ ms) = m .id ∷ ids ms
+
+-- "From an executed mark, follow the entries of its stamp, and theirs, down to marks with none: the marks met precede it
+-- (Theorem 1)." Does a precede b? The list falls at each call, since the entries of a mark were executed before it.
+abbrev pub precedes : List Mark → MarkId → MarkId → Bool
+precedes [] a b = false
+precedes (m ∷ older) a b =
+    elim (same b (m .id)) [ true ↦ any (λ e. same a e || precedes older a e) (m .stamp) | false ↦ precedes older a b ]
+
+-- "Two different marks of which neither precedes the other are concurrent."
+unfoldable pub concurrent : List Mark → MarkId → MarkId → Bool
+concurrent executed a b = not (same a b) && (not (precedes executed a b) && not (precedes executed b a))
+
+-- "The heads are the executed marks that precede no executed mark" (the paper's DCH set); by rising desk.
+unfoldable pub isHead : List Mark → MarkId → Bool
+isHead executed i = not (any (λ k. precedes executed i k) (ids executed))
+
+unfoldable pub heads : List Mark → List MarkId
+heads executed = rising (keep (isHead executed) (ids executed))
+
+-- "number − 1 of its own desk".
+unfoldable pub previous : MarkId → MarkId
+previous i = record { desk = i .desk; number = i .number - 1 }
+
+-- "A mark is ready if all its entries are executed and so is number − 1 of its own desk, where number > 1" (causally ready, Property 1).
+unfoldable pub ready : List Mark → Mark → Bool
+ready executed m =
+    all (λ e. has e (ids executed)) (m .stamp) && (leb (m .id .number) 1 || has (previous (m .id)) (ids executed))
+
+-- "A ready mark has a false stamp if one entry precedes another, or if number > 1 and its desk's previous mark neither is an entry nor precedes one."
+unfoldable pub falseStamp : List Mark → Mark → Bool
+falseStamp executed m =
+    any (λ e. any (λ f. precedes executed e f) (m .stamp)) (m .stamp)
+    || (ltb 1 (m .id .number) && not (any (λ e. same (previous (m .id)) e || precedes executed (previous (m .id)) e) (m .stamp)))
+
+-- Definition 2, of executed marks: a precedes b directly if it precedes b and precedes no mark that precedes b. Definition 4: the direct
+-- causal vector of b has just the marks that precede it directly.
+pub record PrecedesDirectly (executed : List Mark) (a b : MarkId) : Type 0 where
+  pub precede : T (precedes executed a b)
+  pub none-between : (x : MarkId) → T (precedes executed a x) → T (precedes executed x b) → ⊥

@@ -1,0 +1,324 @@
+-- The desk and the plain machine, call by call: release, Receive and Mark do what the machine does. Assumes nothing.
+use Prim.Native.Nat.{_*_, _+_, _-_, _≤_, suc, zero, ℕ}
+use borrow.Author.Tests.{eq-eqb}
+use lib.Dec.{T, T-not, eqb, leb, ltb, not-T}
+use lib.ListN.{length, length-map}
+use mathlib.Core.Bool.{Bool, _||_, cond, false, not, true}
+use mathlib.Core.List.{List, [], _++_, _∷_, map}
+use mathlib.Core.Logic.{inl, inr}
+use mathlib.Core.Option.{Option, Option·map, none, some}
+use mathlib.Core.Path.{_∙_, _≡_, ap, refl, subst, sym}
+use native.Mathlib.Omega.{arith}
+use Rattle.frame.specs.declared.MarkBox.{MarkBox}
+use Rattle.frame.specs.Answer.{Answer, gives, refused}
+use Rattle.frame.specs.Frame.{overIf}
+use Rattle.frame.specs.Mark.{MarkId, boxRule}
+use Rattle.causality.specs.Answers.{Executed, Known, Numbered, Reception}
+use Rattle.causality.specs.Calls.{Received, Release, arrive, execute, executing, frameOfMark, full, mark, markAnswer, newMark, receiveMark, refuse, release, sameBytes, stateIf, unmade}
+use Rattle.causality.specs.Marks.{All, all, any, find, has, insert, keep, lower, lowest, rising, same, tally, waitingPlaces, without}
+use Rattle.causality.specs.State.{Mark, State, falseStamp, heads, ids, isHead, markId, precedes, ready}
+use Rattle.causality.proofs.Fit.{Fit, fit-size, markSize}
+use Rattle.causality.proofs.Kept.{Kept, new-fit}
+use Rattle.causality.proofs.Lists.{Picked, absent-all, all-append, all-map, any-cong, find-all, find-has, has-append, ids-append, isSome, lowest-picked, nor-fst, nor-snd, without-all}
+use Rattle.causality.proofs.Logic.{or-cases, same-refl, same→eq}
+use Rattle.causality.proofs.Past.{Good, Standing, not-false-stamp, precedes-past, ready-past, ready-stands, tally-le}
+use Rattle.history.specs.Plain.{DeskLists, MadeMark, Outcome, executeReady, frameSize, handOver, isLast, leaveOut, listsFull, madeId, madeIds, making, newMade, pastListed}
+
+same-bytes-refl : (s : List ℕ) → sameBytes s s ≡ true
+same-bytes-refl [] = refl
+same-bytes-refl (x ∷ s) = rw (eq-eqb x x refl) (same-bytes-refl s)
+
+-- past: of each mark made in the whole sequence
+module _ (past : MarkId → List MarkId) where
+  unfoldable pub madeOf : Mark → MadeMark
+  madeOf m = record { id = m .id; extent = m .extent; past = past (m .id) }
+
+  pub made-ids : (ms : List Mark) → madeIds (map madeOf ms) ≡ ids ms
+  unfolding madeOf
+  made-ids [] = refl
+  made-ids (m ∷ ms) = ap (λ (l : List MarkId). m .id ∷ l) (made-ids ms)
+
+  map-append : (ms ns : List Mark) → map madeOf (ms ++ ns) ≡ map madeOf ms ++ map madeOf ns
+  map-append [] ns = refl
+  map-append (m ∷ ms) ns = ap (λ (l : List MadeMark). madeOf m ∷ l) (map-append ms ns)
+
+  lowest-map : (p : Mark → Bool) (q : MadeMark → Bool) (ws : List Mark) → All (λ w. q (madeOf w) ≡ p w) ws → lowest madeId q (map madeOf ws) ≡ Option·map madeOf (lowest markId p ws)
+  unfolding madeOf
+  lowest-map p q [] a = refl
+  lowest-map p q (v ∷ vs) a = start (a .0) (lowest-map p q vs (a .1)) ∙ go (p v) (lowest markId p vs)
+    where
+      start : q (madeOf v) ≡ p v → lowest madeId q (map madeOf vs) ≡ Option·map madeOf (lowest markId p vs)
+          → lowest madeId q (map madeOf (v ∷ vs)) ≡ elim (p v) [ true ↦ some (lower madeId (madeOf v) (Option·map madeOf (lowest markId p vs))) | false ↦ Option·map madeOf (lowest markId p vs) ]
+      start e ih = λ i. elim (e i) [ true ↦ some (lower madeId (madeOf v) (ih i)) | false ↦ ih i ]
+
+      two : (b : Bool) (u : Mark) → some (elim b [ true ↦ madeOf u | false ↦ madeOf v ]) ≡ Option·map madeOf (some (elim b [ true ↦ u | false ↦ v ]))
+      two true u = refl
+      two false u = refl
+
+      go : (b : Bool) (o : Option Mark) → elim b [ true ↦ some (lower madeId (madeOf v) (Option·map madeOf o)) | false ↦ Option·map madeOf o ] ≡ Option·map madeOf (elim b [ true ↦ some (lower markId v o) | false ↦ o ])
+      go true none = refl
+      go true (some u) = two (ltb (u .id .desk) (v .id .desk)) u
+      go false o = refl
+
+  without-map : (i : MarkId) (ws : List Mark) → without madeId i (map madeOf ws) ≡ map madeOf (without markId i ws)
+  unfolding madeOf
+  without-map i [] = refl
+  without-map i (v ∷ vs) = go (same i (v .id)) (without-map i vs)
+    where
+      go : (b : Bool) → without madeId i (map madeOf vs) ≡ map madeOf (without markId i vs)
+          → elim b [ true ↦ without madeId i (map madeOf vs) | false ↦ madeOf v ∷ without madeId i (map madeOf vs) ] ≡ map madeOf (elim b [ true ↦ without markId i vs | false ↦ v ∷ without markId i vs ])
+      go true ih = ih
+      go false ih = ap (λ (l : List MadeMark). madeOf v ∷ l) ih
+
+  listed-past : (l : List Mark) (m : Mark) → pastListed (map madeOf l) (madeOf m) ≡ all (λ a. has a (ids l)) (past (m .id))
+  unfolding madeOf pastListed
+  listed-past l m = ap (λ (ns : List MarkId). all (λ a. has a ns) (past (m .id))) (made-ids l)
+
+  listed-ready : (l : List Mark) → Standing past l → (m : Mark) → Good past m → pastListed (map madeOf l) (madeOf m) ≡ ready l m
+  listed-ready l h m g = listed-past l m ∙ sym (ready-past past l h m g)
+
+  abbrev pub listsOf : State → DeskLists
+  listsOf d = record { listed = map madeOf (d .executed); waiting = map madeOf (d .waiting) }
+
+  -- K: what is known of each mark that a desk holds
+  module _ (K : Mark → Type 0) where
+    pub record Unlisted (l : List Mark) (w : Mark) : Type 0 where
+      pub good : Good past w
+      pub fresh : T (not (has (w .id) (ids l)))
+      pub k : K w
+
+    pub record Consistent (l ws : List Mark) : Type 0 where
+      pub hist : Standing past l
+      pub ks : All K l
+      pub lacks : All (Unlisted l) ws
+
+    pub record Released (turns : ℕ) (l ws : List Mark) (k f : ℕ) (r : Release) : Type 0 where
+      pub sim : executeReady turns (map madeOf l) (map madeOf ws) ≡ record { listed = map madeOf (r .executed); waiting = map madeOf (r .waiting) }
+      pub growth : r .k + length l ≡ k + length (r .executed)
+      pub none-false : r .f ≡ f
+      pub ok : Consistent (r .executed) (r .waiting)
+      pub grows : (e : ℕ) → tally e (ids l) ≤ tally e (ids (r .executed))
+
+    release-none : (turns : ℕ) (l ws : List Mark) (k f : ℕ) → lowest markId (ready l) ws ≡ none → release (suc turns) l ws k f ≡ record { executed = l; waiting = ws; k = k; f = f }
+    release-none turns l ws k f e = rw (e, release)
+
+    release-some : (turns : ℕ) (l ws : List Mark) (k f : ℕ) (w : Mark) → lowest markId (ready l) ws ≡ some w → falseStamp l w ≡ false
+        → release (suc turns) l ws k f ≡ release turns (w ∷ l) (without markId (w .id) ws) (suc k) f
+    release-some turns l ws k f w e e′ = rw (e, release) (rw e′)
+
+    execute-none : (turns : ℕ) (l ws : List MadeMark) → lowest madeId (pastListed l) ws ≡ none → executeReady (suc turns) l ws ≡ record { listed = l; waiting = ws }
+    execute-none turns l ws e = rw (e, executeReady)
+
+    execute-some : (turns : ℕ) (l ws : List MadeMark) (w : MadeMark) → lowest madeId (pastListed l) ws ≡ some w
+        → executeReady (suc turns) l ws ≡ executeReady turns (w ∷ l) (without madeId (w .id) ws)
+    execute-some turns l ws w e = rw (e, executeReady)
+
+    -- one more is executed
+    ok-add : (l ws : List Mark) → Standing past l → All K l → (w : Mark) → Unlisted l w → T (ready l w)
+        → All (λ v. Unlisted l v × T (not (same (w .id) (v .id)))) ws → Consistent (w ∷ l) ws
+    ok-add l ws h ks w lw t a = record {
+      hist = (ready-stands past l h w (lw .good) (lw .fresh) (rw (ready-past past l h w (lw .good)) at t), h);
+      ks = (lw .k, ks);
+      lacks = all-map (λ m p. record { good = p .0 .good; k = p .0 .k; fresh = other m p }) ws a;
+    }
+      where
+        other : (m : Mark) → Unlisted l m × T (not (same (w .id) (m .id))) → T (not (has (m .id) (w .id ∷ ids l)))
+        other m p = not-T (has (m .id) (w .id ∷ ids l)) (λ u. elim (or-cases (same (m .id) (w .id)) (has (m .id) (ids l)) u) [
+          | inl e ↦ T-not (same (w .id) (m .id)) (p .1) (rw (same→eq (m .id) (w .id) e) (same-refl (w .id)))
+          | inr n ↦ T-not (has (m .id) (ids l)) (p .0 .fresh) n
+        ])
+
+    pub release-ok : (turns : ℕ) (l ws : List Mark) (k f : ℕ) → Consistent l ws → Released turns l ws k f (release turns l ws k f)
+    unfolding madeOf
+    release-ok zero l ws k f o = record { sim = refl; growth = refl; none-false = refl; ok = o; grows = λ e. omega arith }
+    release-ok (suc turns) l ws k f o = go (lowest markId (ready l) ws) refl (release-ok turns)
+      where
+        same-pick : lowest madeId (pastListed (map madeOf l)) (map madeOf ws) ≡ Option·map madeOf (lowest markId (ready l) ws)
+        same-pick = lowest-map (ready l) (pastListed (map madeOf l)) ws (all-map (λ w x. listed-ready l (o .hist) w (x .good)) ws (o .lacks))
+
+        go : (p : Option Mark) → lowest markId (ready l) ws ≡ p
+            → ((l ws : List Mark) (k f : ℕ) → Consistent l ws → Released turns l ws k f (release turns l ws k f))
+            → Released (suc turns) l ws k f (release (suc turns) l ws k f)
+        go none e ih = subst (Released (suc turns) l ws k f) (sym (release-none turns l ws k f e))
+            (record { sim = execute-none turns (map madeOf l) (map madeOf ws) (same-pick ∙ ap (Option·map madeOf) e); growth = refl; none-false = refl; ok = o; grows = λ e. omega arith })
+        go (some w) e ih =
+            let pk : Unlisted l w × T (ready l w) = subst (Picked (Unlisted l) (ready l)) e (lowest-picked (Unlisted l) (ready l) ws (o .lacks)) in
+            let nf : falseStamp l w ≡ false = not-false-stamp past l (o .hist) w (pk .0 .good) (rw (ready-past past l (o .hist) w (pk .0 .good)) at (pk .1)) in
+            let r : Released turns (w ∷ l) (without markId (w .id) ws) (suc k) f (release turns (w ∷ l) (without markId (w .id) ws) (suc k) f) = ih (w ∷ l) (without markId (w .id) ws) (suc k) f (ok-add l (without markId (w .id) ws) (o .hist) (o .ks) w (pk .0) (pk .1) (without-all (Unlisted l) (w .id) ws (o .lacks))) in
+            subst (Released (suc turns) l ws k f) (sym (release-some turns l ws k f w e nf))
+            (record {
+              sim = execute-some turns (map madeOf l) (map madeOf ws) (madeOf w) (same-pick ∙ ap (Option·map madeOf) e) ∙ ap (λ (x : List MadeMark). executeReady turns (madeOf w ∷ map madeOf l) x) (without-map (w .id) ws) ∙ r .sim;
+              growth = let g = r .growth in omega arith;
+              none-false = r .none-false;
+              ok = r .ok;
+              grows = λ e. let a = tally-le e (w .id) (ids l) in let b = r .grows e in omega arith;
+            })
+
+    -- A desk's outcome and the plain machine's are the same, and the desk stays consistent.
+    pub record Matches (d : State) (t : Outcome Reception) (o : Received) : Type 0 where
+      pub sim : t ≡ record { lists = listsOf (o .state); answer = o .answer }
+      pub own : o .state .own ≡ d .own
+      pub ok : Consistent (o .state .executed) (o .state .waiting)
+      pub grows : (e : ℕ) → tally e (ids (d .executed)) ≤ tally e (ids (o .state .executed))
+
+    -- Nothing changes.
+    unchanged : (d : State) (a : Answer Reception) → Consistent (d .executed) (d .waiting) → Matches d (record { lists = listsOf d; answer = a }) (record { state = d; answer = a })
+    unchanged d a o = record { sim = refl; own = refl; ok = o; grows = λ e. omega arith }
+
+    lists-full : (d : State) → listsFull (listsOf d) ≡ full d
+    unfolding listsFull full
+    lists-full d = rw (length-map (d .executed) madeOf, length-map (d .waiting) madeOf)
+
+    known-has : (d : State) (m : Mark) → has ((madeOf m) .id) (madeIds ((listsOf d) .listed ++ (listsOf d) .waiting)) ≡ isSome (find markId (m .id) (d .executed ++ d .waiting))
+    unfolding madeOf
+    known-has d m = ap (λ (l : List MadeMark). has (m .id) (madeIds l)) (sym (map-append (d .executed) (d .waiting))) ∙ ap (has (m .id)) (made-ids (d .executed ++ d .waiting)) ∙ find-has (m .id) (d .executed ++ d .waiting)
+
+    -- A mark that is neither executed nor waiting.
+    arrive-ok : (d : State) (m : Mark) → Consistent (d .executed) (d .waiting) → Good past m → K m → T (not (has (m .id) (ids (d .executed ++ d .waiting))))
+        → has ((madeOf m) .id) (madeIds ((listsOf d) .listed ++ (listsOf d) .waiting)) ≡ false
+        → Matches d (handOver (listsOf d) (madeOf m)) (arrive d m)
+    unfolding handOver arrive executing leaveOut refuse
+    arrive-ok d m o g km n unknown = go (full d) (ready (d .executed) m) (eqb (length (d .waiting)) waitingPlaces) refl refl refl
+      where
+        n′ : T (not (has (m .id) (ids (d .executed)) || has (m .id) (ids (d .waiting))))
+        n′ = rw (ids-append (d .executed) (d .waiting), has-append (m .id) (ids (d .executed)) (ids (d .waiting))) at n
+
+        lm : Unlisted (d .executed) m
+        lm = record { good = g; fresh = nor-fst (has (m .id) (ids (d .executed))) (has (m .id) (ids (d .waiting))) n′; k = km }
+
+        lr : pastListed (map madeOf (d .executed)) (madeOf m) ≡ ready (d .executed) m
+        lr = listed-ready (d .executed) (o .hist) m g
+
+        exec : T (ready (d .executed) m) → Released (length (d .waiting)) (m ∷ d .executed) (d .waiting) 1 0 (release (length (d .waiting)) (m ∷ d .executed) (d .waiting) 1 0)
+        exec t = release-ok (length (d .waiting)) (m ∷ d .executed) (d .waiting) 1 0
+            (ok-add (d .executed) (d .waiting) (o .hist) (o .ks) m lm t
+            (absent-all (Unlisted (d .executed)) (m .id) (d .waiting) (nor-snd (has (m .id) (ids (d .executed))) (has (m .id) (ids (d .waiting))) n′) (o .lacks)))
+
+        nf : T (ready (d .executed) m) → falseStamp (d .executed) m ≡ false
+        nf t = not-false-stamp past (d .executed) (o .hist) m g (rw (ready-past past (d .executed) (o .hist) m g) at t)
+
+        after : DeskLists
+        after = executeReady (length (d .waiting)) (madeOf m ∷ map madeOf (d .executed)) (map madeOf (d .waiting))
+
+        same-outcome : {r : Release} → Released (length (d .waiting)) (m ∷ d .executed) (d .waiting) 1 0 r
+            → _≡_ {A = Outcome Reception} (record { lists = after; answer = gives (Executed (length (after .listed) - length (map madeOf (d .executed))) 0) })
+            (record { lists = record { listed = map madeOf (r .executed); waiting = map madeOf (r .waiting) }; answer = gives (Executed (r .k) (r .f)) })
+        same-outcome {r} c =
+            let s = c .sim in
+            let z = sym (c .none-false) in
+            let g = c .growth in
+            let n : length (after .listed) - length (map madeOf (d .executed)) ≡ r .k = rw (s, length-map (d .executed) madeOf, length-map (r .executed) madeOf) (omega arith) in
+            λ i. record { lists = s i; answer = gives (Executed (n i) (z i)) }
+
+        go : (a b c : Bool) → full d ≡ a → ready (d .executed) m ≡ b → eqb (length (d .waiting)) waitingPlaces ≡ c → Matches d (handOver (listsOf d) (madeOf m)) (arrive d m)
+        go true b c ea eb ec = rw (unknown, handOver) (rw (lists-full d) (rw ea (rw (ea, arrive) (unchanged d (refused 9) o))))
+        go false false true ea eb ec = rw (unknown, handOver) (rw (lists-full d) (rw (ea, arrive) (rw lr (rw eb (rw (length-map (d .waiting) madeOf) (rw ec (unchanged d (refused 10) o)))))))
+        go false false false ea eb ec = rw (unknown, handOver) (rw (lists-full d) (rw (ea, arrive) (rw lr (rw eb (rw (length-map (d .waiting) madeOf) (rw ec
+            (record { sim = refl; own = refl; ok = record { hist = o .hist; ks = o .ks; lacks = (lm, o .lacks) }; grows = λ e. omega arith })))))))
+        go false true c ea eb ec =
+            let t : T (ready (d .executed) m) = rw eb tt in
+            let x = exec t in
+            rw (unknown, handOver) (rw (lists-full d) (rw (ea, arrive) (rw lr (rw eb (rw (length-map (d .waiting) madeOf) (rw (nf t)
+            (record { sim = same-outcome x; own = refl; ok = x .ok; grows = λ e. let p = tally-le e (m .id) (ids (d .executed)) in let q = x .grows e in omega arith })))))))
+
+    -- Receive of a made mark's frame is its hand-over.
+    pub receive-ok : (N : ℕ) → ((m k : Mark) → K m → K k → m .id ≡ k .id → m ≡ k) → (d : State) (m : Mark) → Consistent (d .executed) (d .waiting) → Good past m → K m
+        → (unmade d (m .id) || any (unmade d) (m .stamp)) ≡ false → Matches d (handOver (listsOf d) (madeOf m)) (receiveMark N d m (frameOfMark N m))
+    unfolding handOver receiveMark refuse
+    receive-ok N one d m o g km made = rw (made, receiveMark) (go (find markId (m .id) (d .executed ++ d .waiting)) refl)
+      where
+        ks : All K (d .executed ++ d .waiting)
+        ks = all-append K (d .executed) (d .waiting) (o .ks) (all-map (λ w l. l .k) (d .waiting) (o .lacks))
+
+        pick : Picked K (λ w. same (m .id) (w .id)) (find markId (m .id) (d .executed ++ d .waiting))
+        pick = find-all K (m .id) (d .executed ++ d .waiting) ks
+
+        go : (p : Option Mark) → find markId (m .id) (d .executed ++ d .waiting) ≡ p
+            → Matches d (handOver (listsOf d) (madeOf m)) (elim (find markId (m .id) (d .executed ++ d .waiting)) [
+              | none ↦ arrive d m
+              | some h ↦ elim (sameBytes (frameOfMark N h) (frameOfMark N m)) [ true ↦ record { state = d; answer = gives Known } | false ↦ refuse d 8 ]
+            ])
+        go none e = rw e (arrive-ok d m o g km
+            (rw (find-has (m .id) (d .executed ++ d .waiting) ∙ ap isSome e) tt)
+            (known-has d m ∙ ap isSome e))
+        go (some h) e =
+            let k = subst (Picked K (λ w. same (m .id) (w .id))) e pick in
+            let eq : h ≡ m = one h m (k .0) km (sym (same→eq (m .id) (h .id) (k .1))) in
+            let sm : sameBytes (frameOfMark N h) (frameOfMark N m) ≡ true = rw eq (same-bytes-refl (frameOfMark N m)) in
+            rw e (rw sm (rw (known-has d m ∙ ap isSome e, handOver) (unchanged d (gives Known) o)))
+
+    -- how many heads
+    length-insert : (e : MarkId) (xs : List MarkId) → length (insert e xs) ≡ suc (length xs)
+    length-insert e [] = refl
+    length-insert e (f ∷ fs) = go2 (leb (e .desk) (f .desk)) (length-insert e fs)
+      where
+        go2 : (b : Bool) → length (insert e fs) ≡ suc (length fs) → length {A = MarkId} (elim b [ true ↦ e ∷ f ∷ fs | false ↦ f ∷ insert e fs ]) ≡ suc (suc (length fs))
+        go2 true ih = refl
+        go2 false ih = ap suc ih
+
+    length-rising : (xs : List MarkId) → length (rising xs) ≡ length xs
+    length-rising [] = refl
+    length-rising (x ∷ xs) = length-insert x (rising xs) ∙ ap suc (length-rising xs)
+
+    any-deeds : (i : MarkId) (ms : List Mark) → any (λ y. has i (y .past)) (map madeOf ms) ≡ any (λ k. has i (past k)) (ids ms)
+    unfolding madeOf
+    any-deeds i [] = refl
+    any-deeds i (m ∷ ms) = ap (λ (b : Bool). has i (past (m .id)) || b) (any-deeds i ms)
+
+    head-last : (l : List Mark) → Standing past l → (m : Mark) → isLast (map madeOf l) (madeOf m) ≡ isHead l (m .id)
+    unfolding madeOf isLast isHead
+    head-last l h m = ap not (any-deeds (m .id) l ∙ sym (any-cong (λ k. precedes l (m .id) k) (λ k. has (m .id) (past k)) (ids l) (λ k mk. precedes-past past l h (m .id) k mk)))
+
+    length-keep : (p : MarkId → Bool) (q : MadeMark → Bool) (ms : List Mark) → ((m : Mark) → q (madeOf m) ≡ p (m .id)) → length (keep q (map madeOf ms)) ≡ length (keep p (ids ms))
+    length-keep p q [] f = refl
+    length-keep p q (m ∷ ms) f = rw (f m) (go2 (p (m .id)) (length-keep p q ms f))
+      where
+        go2 : (b : Bool) → length (keep q (map madeOf ms)) ≡ length (keep p (ids ms)) → length (cond b (madeOf m ∷ keep q (map madeOf ms)) (keep q (map madeOf ms))) ≡ length (cond b (m .id ∷ keep p (ids ms)) (keep p (ids ms)))
+        go2 true ih = ap suc ih
+        go2 false ih = ih
+
+    -- The frame of a new mark has the size that the plain machine says.
+    size-ok : (d : State) (box : MarkBox) → Standing past (d .executed) → frameSize (listsOf d) ≡ markSize 0 (newMark d box)
+    unfolding frameSize heads newMark
+    size-ok d box h = ap (λ (n : ℕ). 23 + 3 * n) (length-keep (isHead (d .executed)) (isLast (map madeOf (d .executed))) (d .executed) (head-last (d .executed) h) ∙ sym (length-rising (keep (isHead (d .executed)) (ids (d .executed)))))
+
+    pub data MarkCase (N : ℕ) (d : State) (box : MarkBox) (out : List ℕ) : Type 0 where
+      declined : (c : ℕ) → mark N d box out ≡ record { state = d; answer = refused c; bytes = out }
+          → making (d .own) (listsOf d) box (length out) ≡ record { lists = listsOf d; answer = refused c } → MarkCase N d box out
+      granted : (n : Numbered) → mark N d box out ≡ record { state = execute (newMark d box) d; answer = gives n; bytes = overIf (gives n) (frameOfMark N (newMark d box)) out }
+          → making (d .own) (listsOf d) box (length out) ≡ record { lists = record { listed = newMade (d .own) (listsOf d) box ∷ map madeOf (d .executed); waiting = map madeOf (d .waiting) }; answer = gives n }
+          → Fit N (newMark d box) → n ≡ record { number = newMark d box .id .number; size = markSize N (newMark d box) } → MarkCase N d box out
+
+    -- Mark is the making.
+    pub mark-cases : (N : ℕ) (some-desk : 1 ≤ N) (d : State) (box : MarkBox) (out : List ℕ) → Standing past (d .executed) → Kept N some-desk d → MarkCase N d box out
+    unfolding mark markAnswer making leaveOut newMark
+    mark-cases N some-desk d box out h k = go (boxRule box) (full d) (ltb (length out) (markSize N (newMark d box))) refl refl refl
+      where
+        fs : frameSize (listsOf d) ≡ markSize N (newMark d box)
+        fs = size-ok d box h
+
+        lf : listsFull (listsOf d) ≡ full d
+        lf = lists-full d
+
+        tn : tally (d .own) (madeIds (map madeOf (d .executed))) ≡ tally (d .own) (ids (d .executed))
+        tn = ap (tally (d .own)) (made-ids (d .executed))
+
+        mark-is : (a : Answer Numbered) → markAnswer N d box (length out) ≡ a
+            → mark N d box out ≡ record { state = stateIf a (execute (newMark d box) d) d; answer = a; bytes = overIf a (frameOfMark N (newMark d box)) out }
+        mark-is a e = λ i. record { state = stateIf (e i) (execute (newMark d box) d) d; answer = e i; bytes = overIf (e i) (frameOfMark N (newMark d box)) out }
+
+        go : (a b c : Bool) → boxRule box ≡ a → full d ≡ b → ltb (length out) (markSize N (newMark d box)) ≡ c → MarkCase N d box out
+        go false b c ea eb ec = declined 5 (mark-is (refused 5) (rw ea)) (rw (ea, making))
+        go true true c ea eb ec = declined 9 (mark-is (refused 9) (rw (ea, eb))) (rw (ea, making) (rw lf (rw eb)))
+        go true false true ea eb ec =
+            let fit = new-fit N some-desk d box k ea eb in
+            declined 13 (mark-is (refused 13) (rw (ea, eb, fit-size N (newMark d box) fit (length out), ec))) (rw (ea, making) (rw lf (rw eb (rw fs (rw ec)))))
+        go true false false ea eb ec =
+            let fit = new-fit N some-desk d box k ea eb in
+            let n : Numbered = record { number = suc (tally (d .own) (ids (d .executed))); size = markSize N (newMark d box) } in
+            granted n (mark-is (gives n) (rw (ea, eb, fit-size N (newMark d box) fit (length out), ec)))
+            (rw (ea, making) (rw lf (rw eb (rw fs (rw ec (rw tn (rw fs))))))) fit refl
+
+  pub new-made : (d : State) (box : MarkBox) → past ((newMark d box) .id) ≡ ids (d .executed) → newMade (d .own) (listsOf d) box ≡ madeOf (newMark d box)
+  unfolding newMade newMark madeOf
+  new-made d box e = let t = made-ids (d .executed) in let p = t ∙ sym e in λ i. record { id = record { desk = d .own; number = suc (tally (d .own) (t i)) }; extent = box; past = p i }

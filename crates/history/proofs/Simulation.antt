@@ -1,0 +1,321 @@
+-- The simulation: over every sequence the desks and the plain machine go through the same lists, sets and answers. Assumes nothing.
+use Prim.Native.Nat.{_<_, _≤_, suc, ℕ}
+use lib.Dec.{T, T-not, eqb, eqb→eq, ltb, ltb→lt, not-T}
+use lib.ListN.{length}
+use mathlib.Core.Bool.{Bool, _||_, false, not, true}
+use mathlib.Core.List.{List, [], _∷_, map}
+use mathlib.Core.Logic.{inl, inr}
+use mathlib.Core.Option.{Option, Option·map, none, some}
+use mathlib.Core.Path.{_∙_, _≡_, ap, refl, subst, sym}
+use native.Mathlib.Omega.{arith}
+use Rattle.frame.specs.declared.MarkBox.{MarkBox}
+use Rattle.frame.specs.Answer.{gives, refused}
+use Rattle.frame.specs.Frame.{overIf}
+use Rattle.frame.specs.Mark.{MarkId, isDesk}
+use Rattle.causality.specs.Answers.{Numbered, Reception}
+use Rattle.causality.specs.Calls.{Created, Marked, created, empty, execute, frameOfMark, mark, new, newMark, unmade}
+use Rattle.causality.specs.Marks.{All, any, find, has, keep, rising, same, tally}
+use Rattle.causality.specs.State.{Mark, State, heads, ids, isHead, markId}
+use Rattle.causality.proofs.Fit.{Fit}
+use Rattle.causality.proofs.Kept.{Kept, kept, mark-kept, receive-mark-kept}
+use Rattle.causality.proofs.Lists.{Picked, all-ids, all-map, any-cong, any-find, find-all, keep-cong}
+use Rattle.causality.proofs.Logic.{and-fst, and-snd, nT→eq, or-cases, same-refl, same→eq}
+use Rattle.causality.proofs.Past.{Good, Stands, new-stands, precedes-past, tally-le, tally-same}
+use Rattle.history.specs.Plain.{DeskLists, History, Outcome, StepAnswer, Unmade, handOver, handOverAt, listsAt, look, madeId, making, makingAt, newMade, ofMark, ofReceive, plain, plainStep, recorded}
+use Rattle.history.specs.Run.{handing, marking}
+use Rattle.history.proofs.Calls.{Consistent, MarkCase, Matches, Unlisted, declined, granted, listsOf, made-ids, madeOf, mark-cases, new-made, receive-ok}
+use Rattle.history.proofs.MarkRun.{MarkRun, fresh, look-both, look-hit, look-new, markStateAt, markStep, receiveFrame, startMarks}
+
+-- A mark's number is one that its own desk has reached.
+abbrev pub Within : ℕ → MarkRun → MarkId → Type 0
+Within N w i = i .number ≤ tally (i .desk) (ids ((markStateAt N w (i .desk)) .executed))
+
+-- The marks of a list of names that are in the past of no other of it, by rising desk.
+abbrev pub lastAmong : (MarkId → List MarkId) → List MarkId → List MarkId
+lastAmong past is = rising (keep (λ e. not (any (λ j. has e (past j)) is)) is)
+
+-- past and register: the past and the mark of each name, as they are at the end of the sequence, so that nothing changes as it grows.
+module _ (N : ℕ) (some-desk : 1 ≤ N) (past : MarkId → List MarkId) (register : MarkId → Option Mark) where
+  pub record Registered (w : MarkRun) (m : Mark) : Type 0 where
+    pub within : Within N w (m .id)
+    pub registered : register (m .id) ≡ some m
+
+  pub record Recorded (w : MarkRun) (m : Mark) : Type 0 where
+    pub good : Good past m
+    pub fit : Fit N m
+    pub stamp : m .stamp ≡ lastAmong past (past (m .id))
+    pub k : Registered w m
+    pub ks : (a : MarkId) → T (has a (past (m .id))) → Within N w a
+
+  one : (w : MarkRun) (m k : Mark) → Registered w m → Registered w k → m .id ≡ k .id → m ≡ k
+  one w m k x y e = let p = x .registered in let q = y .registered in cc
+
+  registered-mono : (w v : MarkRun) → ((i : MarkId) → Within N w i → Within N v i) → (m : Mark) → Registered w m → Registered v m
+  registered-mono w v f m x = record { within = f (m .id) (x .within); registered = x .registered }
+
+  recorded-mono : (w v : MarkRun) → ((i : MarkId) → Within N w i → Within N v i) → (m : Mark) → Recorded w m → Recorded v m
+  recorded-mono w v f m x = record { good = x .good; fit = x .fit; stamp = x .stamp; k = registered-mono w v f m (x .k); ks = λ a t. f a (x .ks a t) }
+
+  consistent-mono : (K L : Mark → Type 0) → ((m : Mark) → K m → L m) → (l ws : List Mark) → Consistent past K l ws → Consistent past L l ws
+  consistent-mono K L f l ws o = record { hist = o .hist; ks = all-map f l (o .ks); lacks = all-map (λ m x. record { good = x .good; fresh = x .fresh; k = f m (x .k) }) ws (o .lacks) }
+
+  pub record Inv (w : MarkRun) (h : History) : Type 0 where
+    pub own : (d : ℕ) → isDesk N d ≡ true → (markStateAt N w d) .own ≡ d
+    pub kept : (d : ℕ) → Kept N some-desk (markStateAt N w d)
+    pub ok : (d : ℕ) → Consistent past (Registered w) ((markStateAt N w d) .executed) ((markStateAt N w d) .waiting)
+    pub made : All (Recorded w) (w .made)
+    pub lists : (d : ℕ) → listsAt h d ≡ listsOf past (markStateAt N w d)
+    pub hist : h .made ≡ map (madeOf past) (w .made)
+    pub answers : w .answers ≡ h .answers
+
+  -- A fresh desk.
+  record Fresh (d : ℕ) (st : State) : Type 0 where
+    own : isDesk N d ≡ true → st .own ≡ d
+    ok : (w : MarkRun) → Consistent past (Registered w) (st .executed) (st .waiting)
+    lists : record { listed = []; waiting = [] } ≡ listsOf past st
+
+  fresh-is : (d : ℕ) → Fresh d (fresh N d)
+  unfolding new
+  fresh-is d = go (isDesk N d) refl
+    where
+      go : (b : Bool) → isDesk N d ≡ b → Fresh d ((elim b as (λ x. Created) [ true ↦ record { state = empty d; answer = gives d } | false ↦ record { state = empty 1; answer = refused 1 } ]) .state)
+      go true e = record { own = λ t. refl; ok = λ w. record { hist = tt; ks = tt; lacks = tt }; lists = refl }
+      go false e = record { own = λ t. let z : _≡_ {A = ℕ} 0 1 = cc in let y : ⊥ = omega arith in absurd y; ok = λ w. record { hist = tt; ks = tt; lacks = tt }; lists = refl }
+
+  pub start : Inv (startMarks N) (plain [])
+  start = record {
+    own = λ d t. fresh-is d .own t;
+    kept = λ d. kept N some-desk (created d);
+    ok = λ d. fresh-is d .ok (startMarks N);
+    made = tt;
+    lists = λ d. fresh-is d .lists;
+    hist = refl;
+    answers = refl;
+  }
+
+  find-map : (i : MarkId) (ms : List Mark) → find madeId i (map (madeOf past) ms) ≡ Option·map (madeOf past) (find markId i ms)
+  unfolding madeOf
+  find-map i [] = refl
+  find-map i (m ∷ ms) = go (same i (m .id)) (find-map i ms)
+    where
+      go : (b : Bool) → find madeId i (map (madeOf past) ms) ≡ Option·map (madeOf past) (find markId i ms)
+          → elim b [ true ↦ some (madeOf past m) | false ↦ find madeId i (map (madeOf past) ms) ] ≡ Option·map (madeOf past) (elim b [ true ↦ some m | false ↦ find markId i ms ])
+      go true ih = refl
+      go false ih = ih
+
+  -- ONE STEP AT DESK d, which gives the state x
+
+  module _ (w : MarkRun) (h : History) (inv : Inv w h) (d : ℕ) (x : State) (ms : List Mark) (a : StepAnswer) where
+    after : MarkRun
+    after = record { states = (d, x) ∷ w .states; made = ms; answers = a ∷ w .answers }
+
+    grow : ((e : ℕ) → tally e (ids ((markStateAt N w d) .executed)) ≤ tally e (ids (x .executed))) → (i : MarkId) → Within N w i → Within N after i
+    unfolding after
+    grow g i k = let m = look-new (λ e y. tally e (ids ((markStateAt N w e) .executed)) ≤ tally e (ids (y .executed))) (fresh N) (w .states) d x (g d) (i .desk) (omega arith) in omega arith
+
+    put : (isDesk N d ≡ true → x .own ≡ d) → Kept N some-desk x → ((e : ℕ) → tally e (ids ((markStateAt N w d) .executed)) ≤ tally e (ids (x .executed)))
+        → Consistent past (Registered after) (x .executed) (x .waiting) → All (Recorded after) ms
+        → (v : History) → v .lists ≡ (d, listsOf past x) ∷ h .lists → v .made ≡ map (madeOf past) ms → v .answers ≡ a ∷ h .answers
+        → Inv after v
+    unfolding after
+    put o kx g k m v e₁ e₂ e₃ = record {
+      own = λ e. look-new (λ e y. isDesk N e ≡ true → y .own ≡ e) (fresh N) (w .states) d x o e (inv .own e);
+      kept = λ e. look-new (λ e y. Kept N some-desk y) (fresh N) (w .states) d x kx e (inv .kept e);
+      ok = λ e. look-new (λ e y. Consistent past (Registered after) (y .executed) (y .waiting)) (fresh N) (w .states) d x k e
+          (consistent-mono (Registered w) (Registered after) (registered-mono w after (grow g)) ((markStateAt N w e) .executed) ((markStateAt N w e) .waiting) (inv .ok e));
+      made = m;
+      lists = λ e. ap (λ (l : List (ℕ × DeskLists)). look (λ n. record { listed = []; waiting = [] }) l e) e₁
+          ∙ look-both (listsOf past) (λ n. record { listed = []; waiting = [] }) (fresh N) (h .lists) (w .states) d x e (inv .lists e);
+      hist = e₂;
+      answers = ap (λ (l : List StepAnswer). a ∷ l) (inv .answers) ∙ sym e₃;
+    }
+
+  module _ (w : MarkRun) (h : History) (inv : Inv w h) (d : ℕ) (td : isDesk N d ≡ true) where
+    -- A HAND-OVER
+
+    made-no : (i : MarkId) → Within N w i → T (not (unmade (markStateAt N w d) i))
+    unfolding unmade
+    made-no i k = not-T (unmade (markStateAt N w d) i) (λ t.
+        let x = markStateAt N w d in
+        let a : Bool = eqb (i .desk) (x .own) in
+        let b : Bool = ltb (tally (x .own) (ids (x .executed))) (i .number) in
+        let p : i .desk ≡ d = eqb→eq (i .desk) (x .own) (and-fst a b t) ∙ inv .own d td in
+        let k′ : i .number ≤ tally d (ids (x .executed)) = subst (λ (n : ℕ). i .number ≤ tally n (ids ((markStateAt N w n) .executed))) p k in
+        let q : tally d (ids (x .executed)) < i .number = subst (λ (n : ℕ). tally n (ids (x .executed)) < i .number) (inv .own d td) (ltb→lt (tally (x .own) (ids (x .executed))) (i .number) (and-snd a b t)) in
+        omega arith)
+
+    none-unmade : (m : Mark) → Recorded w m → (unmade (markStateAt N w d) (m .id) || any (unmade (markStateAt N w d)) (m .stamp)) ≡ false
+    none-unmade m x = nT→eq both (not-T both (λ t. elim (or-cases (unmade (markStateAt N w d) (m .id)) (any (unmade (markStateAt N w d)) (m .stamp)) t) [
+      | inl u ↦ T-not (unmade (markStateAt N w d) (m .id)) (made-no (m .id) (x .k .within)) u
+      | inr u ↦ let r = any-find (unmade (markStateAt N w d)) (m .stamp) u in
+          T-not (unmade (markStateAt N w d) (r .0)) (made-no (r .0) (x .ks (r .0) (x .good .entry (r .0) (r .1)))) (r .2)
+    ]))
+      where
+        both : Bool
+        both = unmade (markStateAt N w d) (m .id) || any (unmade (markStateAt N w d)) (m .stamp)
+
+    pub handing-ok : (i : MarkId) → Inv (markStep N w (handing d i)) (plainStep h (handOverAt d i))
+    unfolding after
+    handing-ok i = go (find markId i (w .made)) refl
+      where
+        idle : MarkRun
+        idle = record { states = w .states; made = w .made; answers = Unmade ∷ w .answers }
+
+        fh : find madeId i (h .made) ≡ Option·map (madeOf past) (find markId i (w .made))
+        fh = ap (find madeId i) (inv .hist) ∙ find-map i (w .made)
+
+        go : (o : Option Mark) → find markId i (w .made) ≡ o → Inv (markStep N w (handing d i)) (plainStep h (handOverAt d i))
+        go none e = rw (e, markStep) (rw (fh ∙ ap (Option·map (madeOf past)) e, plainStep)
+            (record {
+              own = inv .own;
+              kept = inv .kept;
+              ok = λ e. consistent-mono (Registered w) (Registered idle) (registered-mono w idle (λ i k. k)) ((markStateAt N w e) .executed) ((markStateAt N w e) .waiting) (inv .ok e);
+              made = all-map (recorded-mono w idle (λ i k. k)) (w .made) (inv .made);
+              lists = inv .lists;
+              hist = inv .hist;
+              answers = ap (λ (l : List StepAnswer). Unmade ∷ l) (inv .answers);
+            }))
+        go (some m) e =
+            let mm : Recorded w m = (subst (Picked (Recorded w) (λ v. same i (v .id))) e (find-all (Recorded w) i (w .made) (inv .made))) .0 in
+            let x = markStateAt N w d in
+            let r : Matches past (Registered w) x (handOver (listsOf past x) (madeOf past m)) (receiveFrame N x m) = receive-ok past (Registered w) N (one w) x m (inv .ok d) (mm .good) (mm .k) (none-unmade m mm) in
+            let q : handOver (listsAt h d) (madeOf past m) ≡ record { lists = listsOf past ((receiveFrame N x m) .state); answer = (receiveFrame N x m) .answer } = ap (λ (p : DeskLists). handOver p (madeOf past m)) (inv .lists d) ∙ r .sim in
+            let y : State = (receiveFrame N x m) .state in
+            let a : StepAnswer = ofReceive ((receiveFrame N x m) .answer) in
+            let v : MarkRun = after w h inv d y (w .made) a in
+            let gr : (j : MarkId) → Within N w j → Within N v j = grow w h inv d y (w .made) a (r .grows) in
+            rw (e, markStep) (rw (fh ∙ ap (Option·map (madeOf past)) e, plainStep)
+            (put w h inv d y (w .made) a (λ t. r .own ∙ inv .own d t) (receive-mark-kept N some-desk x m (frameOfMark N m) (mm .fit) (inv .kept d)) (r .grows)
+            (consistent-mono (Registered w) (Registered v) (registered-mono w v gr) (y .executed) (y .waiting) (r .ok))
+            (all-map (recorded-mono w v gr) (w .made) (inv .made))
+            (record { lists = (d, (handOver (listsAt h d) (madeOf past m)) .lists) ∷ h .lists; made = h .made; answers = ofReceive ((handOver (listsAt h d) (madeOf past m)) .answer) ∷ h .answers })
+            (ap (λ (t : Outcome Reception). (d, t .lists) ∷ h .lists) q) (inv .hist) (ap (λ (t : Outcome Reception). ofReceive (t .answer) ∷ h .answers) q)))
+
+    -- A MARKING
+
+    module _ (box : MarkBox) where
+      unfoldable pub newAt : Mark
+      newAt = newMark (markStateAt N w d) box
+
+      pub new-id : (newMade d (listsAt h d) box) .id ≡ newAt .id
+      unfolding newMade newMark newAt
+      new-id = rw (inv .lists d, made-ids past ((markStateAt N w d) .executed), inv .own d td)
+
+      new-past : (newMade d (listsAt h d) box) .past ≡ ids ((markStateAt N w d) .executed)
+      unfolding newMade
+      new-past = rw (inv .lists d, made-ids past ((markStateAt N w d) .executed))
+
+      new-number : (newAt .id .number ≡ suc (tally (newAt .id .desk) (ids ((markStateAt N w d) .executed)))) × (newAt .id .desk ≡ d)
+      unfolding newMark newAt
+      new-number = (refl, inv .own d td)
+
+      grows : (e : ℕ) → tally e (ids ((markStateAt N w d) .executed)) ≤ tally e (ids (newAt ∷ (markStateAt N w d) .executed))
+      grows e = tally-le e (newAt .id) (ids ((markStateAt N w d) .executed))
+
+      -- A mark made before is another.
+      pub differs : (i : MarkId) → Within N w i → T (not (same (newAt .id) i))
+      differs i k = not-T (same (newAt .id) i) (λ t.
+          let e : newAt .id ≡ i = same→eq (newAt .id) i t in
+          let k′ : newAt .id .number ≤ tally (newAt .id .desk) (ids ((markStateAt N w (newAt .id .desk)) .executed)) = subst (λ (j : MarkId). j .number ≤ tally (j .desk) (ids ((markStateAt N w (j .desk)) .executed))) (sym e) k in
+          let k″ : newAt .id .number ≤ tally (newAt .id .desk) (ids ((markStateAt N w d) .executed)) = subst (λ (n : ℕ). newAt .id .number ≤ tally (newAt .id .desk) (ids ((markStateAt N w n) .executed))) (new-number .1) k′ in
+          let n = new-number .0 in
+          omega arith)
+
+      module _ (a : StepAnswer) (fit : Fit N newAt) (ep : past (newAt .id) ≡ ids ((markStateAt N w d) .executed)) (er : register (newAt .id) ≡ some newAt) where
+        next : MarkRun
+        next = after w h inv d (execute newAt (markStateAt N w d)) (newAt ∷ w .made) a
+
+        up : (i : MarkId) → Within N w i → Within N next i
+        unfolding next
+        up = grow w h inv d (execute newAt (markStateAt N w d)) (newAt ∷ w .made) a grows
+
+        stands : Stands past newAt ((markStateAt N w d) .executed)
+        unfolding newAt
+        stands = new-stands past (markStateAt N w d) box (inv .ok d .hist) ep
+
+        -- Its stamp is the heads, and these are the last ones of its past.
+        last-ones : newAt .stamp ≡ lastAmong past (past (newAt .id))
+        unfolding newAt newMark heads isHead
+        last-ones = let l = (markStateAt N w d) .executed in rw ep (ap rising (keep-cong _ _ (ids l) (λ e me. ap not (any-cong _ _ (ids l) (λ k mk. precedes-past past l (inv .ok d .hist) e k mk)))))
+
+        new-within : Within N next (newAt .id)
+        unfolding next after
+        new-within = subst (λ (y : State). newAt .id .number ≤ tally (newAt .id .desk) (ids (y .executed))) (sym (look-hit (fresh N) (w .states) d (execute newAt (markStateAt N w d)) (newAt .id .desk) (sym (new-number .1)))) here
+          where
+            here : newAt .id .number ≤ tally (newAt .id .desk) (ids (newAt ∷ (markStateAt N w d) .executed))
+            here = let n = new-number .0 in let t = tally-same (newAt .id .desk) (newAt .id) (ids ((markStateAt N w d) .executed)) refl in omega arith
+
+        new-ok : Consistent past (Registered next) (newAt ∷ (markStateAt N w d) .executed) ((markStateAt N w d) .waiting)
+        new-ok = record {
+          hist = (stands, inv .ok d .hist);
+          ks = (record { within = new-within; registered = er }, all-map (registered-mono w next up) ((markStateAt N w d) .executed) (inv .ok d .ks));
+          lacks = all-map (λ m x. record { good = x .good; k = registered-mono w next up m (x .k); fresh = other m x }) ((markStateAt N w d) .waiting) (inv .ok d .lacks);
+        }
+          where
+            other : (m : Mark) → Unlisted past (Registered w) ((markStateAt N w d) .executed) m → T (not (has (m .id) (newAt .id ∷ ids ((markStateAt N w d) .executed))))
+            other m x = not-T (has (m .id) (newAt .id ∷ ids ((markStateAt N w d) .executed))) (λ u. elim (or-cases (same (m .id) (newAt .id)) (has (m .id) (ids ((markStateAt N w d) .executed))) u) [
+              | inl e ↦ T-not (same (newAt .id) (m .id)) (differs (m .id) (x .k .within)) (rw (same→eq (m .id) (newAt .id) e) (same-refl (newAt .id)))
+              | inr n ↦ T-not (has (m .id) (ids ((markStateAt N w d) .executed))) (x .fresh) n
+            ])
+
+        new-made-ok : Recorded next newAt
+        new-made-ok = record {
+          good = stands .good;
+          fit = fit;
+          stamp = last-ones;
+          k = record { within = new-within; registered = er };
+          ks = λ b t. up b (all-ids (Within N w) ((markStateAt N w d) .executed) (all-map (λ m x. x .within) ((markStateAt N w d) .executed) (inv .ok d .ks)) b (rw ep at t));
+        }
+
+    pub marking-ok : (box : MarkBox) (lent : List ℕ)
+        → All (λ y. past (y .id) ≡ y .past) ((plainStep h (makingAt d box (length lent))) .made)
+        → All (λ m. register (m .id) ≡ some m) ((markStep N w (marking d box lent)) .made)
+        → Inv (markStep N w (marking d box lent)) (plainStep h (makingAt d box (length lent)))
+    unfolding after next newAt
+    marking-ok box lent hp hr = go (mark-cases past (Registered w) N some-desk x box lent (inv .ok d .hist) (inv .kept d))
+      where
+        x : State
+        x = markStateAt N w d
+
+        to-own : making d (listsAt h d) box (length lent) ≡ making (x .own) (listsOf past x) box (length lent)
+        to-own = ap (λ (p : DeskLists). making d p box (length lent)) (inv .lists d) ∙ ap (λ (n : ℕ). making n (listsOf past x) box (length lent)) (sym (inv .own d td))
+
+        same-step : (o : Marked) → mark N x box lent ≡ o → markStep N w (marking d box lent) ≡ record { states = (d, o .state) ∷ w .states; made = recorded (o .answer) (newMark x box) (w .made); answers = ofMark (o .answer) ∷ w .answers }
+        same-step o e = ap (λ (o : Marked). record { states = (d, o .state) ∷ w .states; made = recorded (o .answer) (newMark x box) (w .made); answers = ofMark (o .answer) ∷ w .answers }) e
+
+        same-making : (t : Outcome Numbered) → making (x .own) (listsOf past x) box (length lent) ≡ t
+            → plainStep h (makingAt d box (length lent)) ≡ record { lists = (d, t .lists) ∷ h .lists; made = recorded (t .answer) (newMade d (listsAt h d) box) (h .made); answers = ofMark (t .answer) ∷ h .answers }
+        same-making t e = ap (λ (t : Outcome Numbered). record { lists = (d, t .lists) ∷ h .lists; made = recorded (t .answer) (newMade d (listsAt h d) box) (h .made); answers = ofMark (t .answer) ∷ h .answers }) (to-own ∙ e)
+
+        go : MarkCase past (Registered w) N x box lent → Inv (markStep N w (marking d box lent)) (plainStep h (makingAt d box (length lent)))
+        go (declined c e₁ e₂) =
+            let a : StepAnswer = ofMark (refused c) in
+            let v : MarkRun = after w h inv d x (w .made) a in
+            let le : (e : ℕ) → tally e (ids (x .executed)) ≤ tally e (ids (x .executed)) = λ e. omega arith in
+            let gr : (j : MarkId) → Within N w j → Within N v j = grow w h inv d x (w .made) a le in
+            rw (same-step (record { state = x; answer = refused c; bytes = lent }) e₁) (rw (same-making (record { lists = listsOf past x; answer = refused c }) e₂)
+            (put w h inv d x (w .made) a (inv .own d) (inv .kept d) le
+            (consistent-mono (Registered w) (Registered v) (registered-mono w v gr) (x .executed) (x .waiting) (inv .ok d))
+            (all-map (recorded-mono w v gr) (w .made) (inv .made))
+            (record { lists = (d, listsOf past x) ∷ h .lists; made = h .made; answers = a ∷ h .answers }) refl (inv .hist) refl))
+        go (granted n e₁ e₂ fit en) =
+            let p′ : DeskLists = record { listed = newMade (x .own) (listsOf past x) box ∷ map (madeOf past) (x .executed); waiting = map (madeOf past) (x .waiting) } in
+            let es = same-step (record { state = execute (newAt box) x; answer = gives n; bytes = overIf (gives n) (frameOfMark N (newAt box)) lent }) e₁ in
+            let et = same-making (record { lists = p′; answer = gives n }) e₂ in
+            let hp′ : All (λ y. past (y .id) ≡ y .past) (newMade d (listsAt h d) box ∷ h .made) = subst (λ (v : History). All (λ y. past (y .id) ≡ y .past) (v .made)) et hp in
+            let hr′ : All (λ m. register (m .id) ≡ some m) (newAt box ∷ w .made) = subst (λ (v : MarkRun). All (λ m. register (m .id) ≡ some m) (v .made)) es hr in
+            let ep : past ((newAt box) .id) ≡ ids (x .executed) = ap past (sym (new-id box)) ∙ hp′ .0 ∙ new-past box in
+            let nd : newMade (x .own) (listsOf past x) box ≡ madeOf past (newAt box) = new-made past x box ep in
+            let nd′ : newMade d (listsAt h d) box ≡ madeOf past (newAt box) = ap (λ (p : DeskLists). newMade d p box) (inv .lists d) ∙ ap (λ (n : ℕ). newMade n (listsOf past x) box) (sym (inv .own d td)) ∙ nd in
+            let a : StepAnswer = ofMark (gives n) in
+            rw es (rw et
+            (put w h inv d (execute (newAt box) x) (newAt box ∷ w .made) a (inv .own d) (kept-after e₁) (grows box)
+            (new-ok box a fit ep (hr′ .0))
+            (new-made-ok box a fit ep (hr′ .0), all-map (recorded-mono w (next box a fit ep (hr′ .0)) (up box a fit ep (hr′ .0))) (w .made) (inv .made))
+            (record { lists = (d, p′) ∷ h .lists; made = newMade d (listsAt h d) box ∷ h .made; answers = a ∷ h .answers })
+            (λ i. (d, record { listed = nd i ∷ map (madeOf past) (x .executed); waiting = map (madeOf past) (x .waiting) }) ∷ h .lists)
+            (λ i. nd′ i ∷ inv .hist i)
+            refl))
+          where
+            kept-after : mark N x box lent ≡ record { state = execute (newAt box) x; answer = gives n; bytes = overIf (gives n) (frameOfMark N (newAt box)) lent } → Kept N some-desk (execute (newAt box) x)
+            kept-after e = subst (λ (o : Marked). Kept N some-desk (o .state)) e (mark-kept N some-desk x box lent (inv .kept d))

@@ -1,0 +1,78 @@
+-- Demand 3: over every sequence of steps at desks 1 to N the desks and the plain machine agree.
+use Prim.Native.Nat.{ℕ}
+use lib.Dec.{T, eqb}
+use mathlib.Core.Bool.{Bool, _||_, not, true}
+use mathlib.Core.List.{List, [], _++_, _∷_, map}
+use mathlib.Core.Path.{_≡_}
+use Rattle.frame.specs.declared.MarkBox.{MarkBox}
+use Rattle.frame.specs.Answer.{gives, refused}
+use Rattle.frame.specs.Frame.{edition, entriesOf, readEntries}
+use Rattle.frame.specs.Mark.{MarkId, desks, isDesk}
+use Rattle.causality.specs.Answers.{Executed, Known, Waiting}
+use Rattle.causality.specs.Calls.{relate}
+use Rattle.causality.specs.Marks.{All, all, has}
+use Rattle.causality.specs.State.{Mark, State, ids}
+use Rattle.history.specs.Plain.{DeskLists, History, MadeMark, StepAnswer, Unmade, lastOfPast, listsAt, ofMark, ofReceive, pastOf, plain, relation}
+use Rattle.history.specs.Run.{Run, Step, deskOf, fed, run, stateAt}
+
+-- A mark with its box, at a desk and in the history.
+pub record Boxed : Type 0 where
+  pub id : MarkId
+  pub extent : MarkBox
+
+abbrev pub boxed : Mark → Boxed
+boxed m = record { id = m .id; extent = m .extent }
+
+abbrev pub madeBoxed : MadeMark → Boxed
+madeBoxed x = record { id = x .id; extent = x .extent }
+
+-- What is compared at one desk: its state, its lists in the history, and the marks made.
+pub record AtDesk (st : State) (ls : DeskLists) (made : List MadeMark) : Type 0 where
+  -- "the executed marks by rising place, each with its box, and the machine's list"
+  pub lists : map boxed (st .executed) ≡ map madeBoxed (ls .listed)
+  -- "the waiting marks, each with its box, and the machine's waiting set"
+  pub waiting : map boxed (st .waiting) ≡ map madeBoxed (ls .waiting)
+  -- "the entries of each made mark's stamp .. at each desk that has the mark, and the marks of its past that happened before no other mark of it"
+  pub stamps : All (λ m. m .stamp ≡ lastOfPast made (m .id)) (st .executed ++ st .waiting)
+  -- "what Relate answers for any two marks"
+  pub relates : (a b : MarkId) → relate st a b ≡ relation made ls a b
+
+pub record Agree (N : ℕ) (r : Run) (h : History) : Type 0 where
+  -- "every answer of Mark and Receive, refusals included, and the machine's"
+  pub answers : r .answers ≡ h .answers
+  -- "the entries of each made mark's stamp, in its frame .."
+  pub frames : All (λ f. entriesOf (readEntries (edition N) (f .bytes)) ≡ lastOfPast (h .made) (f .id)) (r .frames)
+  pub desks : (d : ℕ) → T (isDesk N d) → AtDesk (stateAt N r d) (listsAt h d) (h .made)
+
+abbrev pub Demand3 : ℕ → Type 0
+Demand3 N = (s : List Step) → All (λ t. T (isDesk N (deskOf t))) s → Agree N (run N s) (plain (map fed s))
+
+-- WHAT FOLLOWS
+
+-- "each listed mark stands behind its whole past", newest first.
+abbrev pub Behind : List MadeMark → List Mark → Type 0
+Behind made [] = Unit {0}
+Behind made (m ∷ older) = T (all (λ a. has a (ids older)) (pastOf made (m .id))) × Behind made older
+
+-- "Refusals 2 to 4, 6 to 8 and 11, and drops, never occur there": what does.
+abbrev pub occurs : StepAnswer → Bool
+occurs (ofMark (gives n)) = true
+occurs (ofMark (refused c)) = eqb c 5 || (eqb c 9 || eqb c 13)
+occurs (ofReceive (gives Known)) = true
+occurs (ofReceive (gives Waiting)) = true
+occurs (ofReceive (gives (Executed k f))) = eqb f 0
+occurs (ofReceive (refused c)) = eqb c 9 || eqb c 10
+occurs Unmade = true
+
+pub record Consequent (N : ℕ) (r : Run) (h : History) : Type 0 where
+  pub behind : (d : ℕ) → T (isDesk N d) → Behind (h .made) ((stateAt N r d) .executed)
+  -- "each mark waiting at a desk lacks a mark of its past in that desk's list"
+  pub lacking : (d : ℕ) → T (isDesk N d)
+      → All (λ w. T (not (all (λ a. has a (ids ((stateAt N r d) .executed))) (pastOf (h .made) (w .id))))) ((stateAt N r d) .waiting)
+  -- No entry of a frame happened before another.
+  pub direct : All (λ f. (a b : MarkId) → T (has a (entriesOf (readEntries (edition N) (f .bytes)))) → T (has b (entriesOf (readEntries (edition N) (f .bytes))))
+      → T (has a (pastOf (h .made) b)) → ⊥) (r .frames)
+  pub answers : All (λ a. T (occurs a)) (r .answers)
+
+abbrev pub Consequences : ℕ → Type 0
+Consequences N = (s : List Step) → All (λ t. T (isDesk N (deskOf t))) s → Consequent N (run N s) (plain (map fed s))

@@ -1,0 +1,3 @@
+pub mod Plain
+pub mod Run
+pub mod Demand3
