@@ -239,14 +239,22 @@ mark-reach N d b out r = go (markAnswer N d b (length out))
     go (gives n) = new
     go (refused c) = r
 
+-- A mark that arrived and is ready, with a true stamp, is executed.
+absent-both : (d : State) (m : Mark) → Arrives d m → T (not (has (m .id) (ids (d .executed)) || has (m .id) (ids (d .waiting))))
+absent-both d m a = rw (← has-append (m .id) (ids (d .executed)) (ids (d .waiting)), ← ids-append (d .executed) (d .waiting), find-has (m .id) (d .executed ++ d .waiting), a .absent) tt
+
+pub execute-reach : (d : State) (m : Mark) → 1 ≤ m .id .number → ReachState d → Arrives d m → ready (d .executed) m ≡ true → falseStamp (d .executed) m ≡ false → ReachState (execute m d)
+execute-reach d m p r a b c =
+    let n = absent-both d m a in
+    let here = nor-fst (has (m .id) (ids (d .executed))) (has (m .id) (ids (d .waiting))) n in
+    grown (d .own) (d .executed) (d .waiting) m (follows-of (d .executed) m (r .sound) p here (rw b tt) c) (r .sound)
+    (absent-all (Wait (d .own) (d .executed)) (m .id) (d .waiting) (nor-snd (has (m .id) (ids (d .executed))) (has (m .id) (ids (d .waiting))) n) (r .wait))
+
 pub receive-reach : (N : ℕ) (d : State) (m : Mark) (s : List ℕ) → 1 ≤ m .id .number → ((e : MarkId) → T (has e (m .stamp)) → 1 ≤ e .number) → ReachState d
     → ReachState ((receiveMark N d m s) .state)
 unfolding executing unmade
 receive-reach N d m s p pe r = go (receive-case N d m s)
   where
-    absent : Arrives d m → T (not (has (m .id) (ids (d .executed)) || has (m .id) (ids (d .waiting))))
-    absent a = rw (← has-append (m .id) (ids (d .executed)) (ids (d .waiting)), ← ids-append (d .executed) (d .waiting), find-has (m .id) (d .executed ++ d .waiting), a .absent) tt
-
     here : T (not (has (m .id) (ids (d .executed)) || has (m .id) (ids (d .waiting)))) → T (not (has (m .id) (ids (d .executed))))
     here n = nor-fst (has (m .id) (ids (d .executed))) (has (m .id) (ids (d .waiting))) n
 
@@ -259,14 +267,12 @@ receive-reach N d m s p pe r = go (receive-case N d m s)
     wait : Arrives d m → Wait (d .own) (d .executed) m
     wait a = record {
       pos = p;
-      fresh = here (absent a);
-      away = λ q. T-not (has (m .id) (ids (d .executed))) (here (absent a)) (made (m .id) p (nor-fst (unmade d (m .id)) (any (unmade d) (m .stamp)) (rw (a .made) tt)) q);
+      fresh = here (absent-both d m a);
+      away = λ q. T-not (has (m .id) (ids (d .executed))) (here (absent-both d m a)) (made (m .id) p (nor-fst (unmade d (m .id)) (any (unmade d) (m .stamp)) (rw (a .made) tt)) q);
       asks = λ e te q. made e (pe e te) (not-T (unmade d e) (λ u. T-not (any (unmade d) (m .stamp)) (nor-snd (unmade d (m .id)) (any (unmade d) (m .stamp)) (rw (a .made) tt)) (any-of (unmade d) (m .stamp) e te u))) q;
     }
 
     go : {r : Received} → ReceiveCase d m r → ReachState (r .state)
     go (stays a) = r
     go (waits a b c) = record { sound = r .sound; wait = (wait a, r .wait) }
-    go (executes a b c) = release-reach (d .own) (length (d .waiting)) (m ∷ d .executed) (d .waiting) 1 0
-        (grown (d .own) (d .executed) (d .waiting) m (follows-of (d .executed) m (r .sound) p (here (absent a)) (rw b tt) c) (r .sound)
-        (absent-all (Wait (d .own) (d .executed)) (m .id) (d .waiting) (nor-snd (has (m .id) (ids (d .executed))) (has (m .id) (ids (d .waiting))) (absent a)) (r .wait)))
+    go (executes a b c) = release-reach (d .own) (length (d .waiting)) (m ∷ d .executed) (d .waiting) 1 0 (execute-reach d m p r a b c)

@@ -1,5 +1,5 @@
 // The frame of a mark: its types, its bounds, and the modules that read and write it.
-mod conditions;
+pub mod conditions;
 mod integers;
 pub mod reader;
 pub mod writer;

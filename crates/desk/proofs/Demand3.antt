@@ -1,0 +1,69 @@
+-- Demand 3 of the calls, from their promises and history's theorem. Assumes nothing.
+use Prim.Native.Nat.{ℕ}
+use lib.Dec.{T, eqb}
+use mathlib.Core.Bool.{Bool, false, true}
+use mathlib.Core.List.{List, [], _∷_, map}
+use mathlib.Core.Path.{_∙_, _≡_, ap, refl}
+use Rattle.desk.specs.declared.Desk.{Desk}
+use Rattle.desk.specs.declared.CreatedDesk.{CreatedDesk}
+use Rattle.frame.specs.Mark.{desks, isDesk}
+use Rattle.causality.specs.Calls.{mark, new, receive, relate}
+use Rattle.causality.specs.Marks.{All}
+use Rattle.causality.specs.Meaning.{idOf, numbering, reception}
+use Rattle.causality.specs.State.{State}
+use Rattle.desk.specs.Demand3.{CallRun, CallsAgree, Demand3Calls, Runs, marks, misses, receives, starts, statesOf}
+use Rattle.desk.specs.Promises.{NewPromise}
+use Rattle.desk.specs.StateOf.{stateOf}
+use Rattle.history.specs.Demand3.{Agree}
+use Rattle.history.specs.Plain.{Unmade, look, ofMark, ofReceive, plain}
+use Rattle.history.specs.Run.{Run, Step, deskOf, fed, handing, marking, run, runStep, written}
+use Rattle.history.proofs.MarkRun.{fresh}
+use Rattle.history.proofs.Theorem.{demand3}
+
+module _ (fresh : ℕ → CreatedDesk) (news : (d : ℕ) → NewPromise d (fresh d)) where
+  -- The state of a desk of the run is that of the table of states.
+  state-at : (given : List (ℕ × Desk)) (d : ℕ) → stateOf (look (λ e. (fresh e) .desk) given d) ≡ look (λ e. (new desks e) .state) (map (λ x. (x .0, stateOf (x .1))) given) d
+  state-at [] d = news d .state
+  state-at (x ∷ xs) d = go (eqb (x .0) d) (state-at xs d)
+    where
+      go : (b : Bool) → stateOf (look (λ e. (fresh e) .desk) xs d) ≡ look (λ e. (new desks e) .state) (map (λ x. (x .0, stateOf (x .1))) xs) d
+          → stateOf (elim b [ true ↦ x .1 | false ↦ look (λ e. (fresh e) .desk) xs d ]) ≡ elim b [ true ↦ stateOf (x .1) | false ↦ look (λ e. (new desks e) .state) (map (λ x. (x .0, stateOf (x .1))) xs) d ]
+      go true ih = refl
+      go false ih = ih
+
+  same-run : {s : List Step} {c : CallRun} → Runs fresh s c → statesOf c ≡ run desks s
+  same-run starts = refl
+  same-run (marks {s = s} {c = c} rs d b lent after r p) = one ∙ ap (λ (x : Run). runStep desks x (marking d b lent)) (same-run rs)
+    where
+      one : statesOf (record { given = (d, r .desk) ∷ c .given; frames = written d (numbering (r .answer)) after (c .frames); answers = ofMark (numbering (r .answer)) ∷ c .answers })
+          ≡ runStep desks (statesOf c) (marking d b lent)
+      one =
+          let sa = state-at (c .given) d in
+          let state = p .state ∙ ap (λ (x : State). (mark desks x b lent) .state) sa in
+          let answer = p .answer ∙ ap (λ (x : State). (mark desks x b lent) .answer) sa in
+          let bytes = p .bytes ∙ ap (λ (x : State). (mark desks x b lent) .bytes) sa in
+          λ k. record { states = (d, state k) ∷ map (λ x. (x .0, stateOf (x .1))) (c .given); frames = written d (answer k) (bytes k) (c .frames); answers = ofMark (answer k) ∷ c .answers }
+  same-run (receives {s = s} {c = c} rs d i f e r p) = one ∙ ap (λ (x : Run). runStep desks x (handing d i)) (same-run rs)
+    where
+      one : statesOf (record { given = (d, r .desk) ∷ c .given; frames = c .frames; answers = ofReceive (reception (r .answer)) ∷ c .answers }) ≡ runStep desks (statesOf c) (handing d i)
+      one =
+          let sa = state-at (c .given) d in
+          let state = p .state ∙ ap (λ (x : State). (receive desks x (f .bytes)) .state) sa in
+          let answer = p .answer ∙ ap (λ (x : State). (receive desks x (f .bytes)) .answer) sa in
+          rw (e, runStep) (λ k. record { states = (d, state k) ∷ map (λ x. (x .0, stateOf (x .1))) (c .given); frames = c .frames; answers = ofReceive (answer k) ∷ c .answers })
+  same-run (misses {s = s} {c = c} rs d i e) = one ∙ ap (λ (x : Run). runStep desks x (handing d i)) (same-run rs)
+    where
+      one : statesOf (record { given = c .given; frames = c .frames; answers = Unmade ∷ c .answers }) ≡ runStep desks (statesOf c) (handing d i)
+      one = rw (e, runStep) refl
+
+  calls-agree : (s : List Step) → All (λ t. T (isDesk desks (deskOf t))) s → (c : CallRun) → Runs fresh s c → CallsAgree fresh s c
+  calls-agree s at c rs = record {
+    agree = same;
+    relates = λ d t a b r p. p .answer ∙ ap (λ (x : State). relate x (idOf a) (idOf b)) (state-at (c .given) d) ∙ same .desks d t .relates (idOf a) (idOf b);
+  }
+    where
+      same : Agree desks (statesOf c) (plain (map fed s))
+      same = rw (same-run rs) (demand3 desks s at)
+
+pub demand3-calls : Demand3Calls
+demand3-calls fresh news s at c rs = calls-agree fresh news s at c rs

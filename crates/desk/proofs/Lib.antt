@@ -1,0 +1,16 @@
+pub mod ByRows
+pub mod Arrays
+pub mod Places
+pub mod Invariant
+pub mod Relating
+pub mod Judged
+pub mod JudgeLaws
+pub mod MarkLaws
+pub mod Marking
+pub mod Stores
+pub mod Receiving
+pub mod Releasing
+pub mod Judging
+pub mod Turns
+pub mod Receipt
+pub mod Demand3

@@ -1,0 +1,4 @@
+pub mod StateOf
+pub mod Promises
+pub mod Demand3
+pub mod Steps

@@ -1,0 +1,35 @@
+-- What each call promises: the desk after, the answer and every lent byte, as the definitions of causality have them.
+use mathlib.Core.Path.{_≡_}
+use mathlib.Core.List.{List}
+use Prim.Native.Nat.{ℕ}
+use Rattle.frame.specs.Mark.{desks}
+use Rattle.frame.specs.declared.MarkBox.{MarkBox}
+use Rattle.causality.specs.declared.MarkId.{MarkId}
+use Rattle.causality.specs.Calls.{new, mark, receive, relate}
+use Rattle.causality.specs.Meaning.{idOf, creation, numbering, reception, relating}
+use Rattle.desk.specs.declared.Desk.{Desk}
+use Rattle.desk.specs.declared.CreatedDesk.{CreatedDesk}
+use Rattle.desk.specs.declared.MarkedDesk.{MarkedDesk}
+use Rattle.desk.specs.declared.ReceivedDesk.{ReceivedDesk}
+use Rattle.desk.specs.declared.RelatedDesk.{RelatedDesk}
+use Rattle.desk.specs.StateOf.{stateOf, Kept}
+
+pub record NewPromise (own : ℕ) (r : CreatedDesk) : Type 0 where
+  pub state : stateOf (r .desk) ≡ (new desks own) .state
+  pub answer : creation own (r .answer) ≡ (new desks own) .answer
+  pub kept : Kept (r .desk)
+
+pub record MarkPromise (d : Desk) (b : MarkBox) (out after : List ℕ) (r : MarkedDesk) : Type 0 where
+  pub state : stateOf (r .desk) ≡ (mark desks (stateOf d) b out) .state
+  pub answer : numbering (r .answer) ≡ (mark desks (stateOf d) b out) .answer
+  pub bytes : after ≡ (mark desks (stateOf d) b out) .bytes
+  pub kept : Kept (r .desk)
+
+pub record ReceivePromise (d : Desk) (s : List ℕ) (r : ReceivedDesk) : Type 0 where
+  pub state : stateOf (r .desk) ≡ (receive desks (stateOf d) s) .state
+  pub answer : reception (r .answer) ≡ (receive desks (stateOf d) s) .answer
+  pub kept : Kept (r .desk)
+
+pub record RelatePromise (d : Desk) (a b : MarkId) (r : RelatedDesk) : Type 0 where
+  pub desk : r .desk ≡ d
+  pub answer : relating (r .answer) ≡ relate (stateOf d) (idOf a) (idOf b)

@@ -1,0 +1,4 @@
+pub mod RowSteps
+pub mod RowBytes
+pub mod HeadRows
+pub mod Copies

@@ -1,0 +1,66 @@
+-- The arrays of a desk as marks: rows of counts, the mark at a place, the executed marks newest first.
+use mathlib.Core.Bool.{Bool, true, false, _&&_, _||_}
+use mathlib.Core.List.{List, [], _∷_}
+use mathlib.Core.Option.{Option, none, some}
+use Prim.Native.Nat.{ℕ, zero, suc, _+_, _-_, _*_, _≤_, _<_}
+use lib.Dec.{leb, ltb, eqb}
+use lib.ListN.{getD}
+use Rattle.frame.specs.Mark.{desks}
+use Rattle.frame.specs.declared.MarkBox.{MarkBox}
+use Rattle.causality.specs.State.{Mark}
+use Rattle.causality.proofs.RowLaws.{entriesOfRow}
+
+-- How many counts a row has: one for each desk.
+abbrev pub width : ℕ
+width = desks
+
+-- A row: at desk d, the count that stands at d − 1.
+abbrev pub rowFn : List ℕ → ℕ → ℕ
+rowFn r d = getD r (d - 1) 0
+
+-- Row p of stamps that are laid out row behind row, n counts each.
+abbrev pub rowAt : ℕ → List ℕ → ℕ → ℕ → ℕ
+rowAt n ss p d = getD ss (p * n + (d - 1)) 0
+
+abbrev pub noBox : MarkBox
+noBox = record { start = 0; end = 0; low = 0; high = 0 }
+
+-- The mark at place p of the arrays: desks, numbers, boxes, stamps.
+abbrev pub markAt : ℕ → List ℕ → List ℕ → List MarkBox → List ℕ → ℕ → Mark
+markAt n ds ns bs ss p = record {
+  id = record { desk = getD ds p 0; number = getD ns p 0 };
+  extent = getD bs p noBox;
+  stamp = entriesOfRow n (rowAt n ss p);
+}
+
+-- The first so many of them, newest first.
+unfoldable pub view : ℕ → ℕ → List ℕ → List ℕ → List MarkBox → List ℕ → List Mark
+view n zero ds ns bs ss = []
+view n (suc p) ds ns bs ss = markAt n ds ns bs ss p ∷ view n p ds ns bs ss
+
+-- Each of the first so many marks is of a desk from 1 to n.
+unfoldable pub Named : ℕ → ℕ → List ℕ → Type 0
+Named n count ds = (p : ℕ) → p < count → (1 ≤ getD ds p 0) × (getD ds p 0 ≤ n)
+
+-- The first k counts of the one row are at most those of the other.
+abbrev pub allWithin : ℕ → List ℕ → List ℕ → Bool
+allWithin zero r t = true
+allWithin (suc k) r t = leb (getD r k 0) (getD t k 0) && allWithin k r t
+
+-- One of the first k counts of the one row is no 0 and at most that of the other.
+abbrev pub someReached : ℕ → List ℕ → List ℕ → Bool
+someReached zero s r = false
+someReached (suc k) s r = (ltb 0 (getD s k 0) && leb (getD s k 0) (getD r k 0)) || someReached k s r
+
+-- A head h of a desk with n marks, after a row that names mark x of that desk.
+abbrev pub struck : ℕ → ℕ → ℕ → ℕ
+struck x n h = elim (eqb x n) [ true ↦ 0 | false ↦ h ]
+
+-- The mark at a place below the count, or none.
+unfoldable pub placeAt : ℕ → ℕ → ℕ → List ℕ → List ℕ → List MarkBox → List ℕ → Option Mark
+placeAt n count p ds ns bs ss = elim (ltb p count) [ true ↦ some (markAt n ds ns bs ss p) | false ↦ none ]
+
+-- Two rows have the same counts for the first k desks.
+abbrev pub sameCounts : ℕ → (ℕ → ℕ) → (ℕ → ℕ) → Bool
+sameCounts zero r s = true
+sameCounts (suc k) r s = eqb (r (suc k)) (s (suc k)) && sameCounts k r s
