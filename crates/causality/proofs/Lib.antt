@@ -1,3 +1,4 @@
+-- The modules of the laws and proofs.
 pub mod Logic
 pub mod Lists
 pub mod Past

@@ -1,3 +1,4 @@
+-- The modules of the laws and proofs.
 pub mod ByRows
 pub mod Arrays
 pub mod Places
@@ -13,4 +14,5 @@ pub mod Releasing
 pub mod Judging
 pub mod Turns
 pub mod Receipt
+pub mod FrameAgain
 pub mod Demand3

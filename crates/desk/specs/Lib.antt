@@ -1,3 +1,4 @@
+-- The modules of the definitions.
 pub mod StateOf
 pub mod Promises
 pub mod Demand3

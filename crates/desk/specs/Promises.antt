@@ -2,16 +2,19 @@
 use mathlib.Core.Path.{_≡_}
 use mathlib.Core.List.{List}
 use Prim.Native.Nat.{ℕ}
+use lib.ListN.{length}
+use Rattle.frame.specs.Frame.{writing}
 use Rattle.frame.specs.Mark.{desks}
 use Rattle.frame.specs.declared.MarkBox.{MarkBox}
 use Rattle.causality.specs.declared.MarkId.{MarkId}
-use Rattle.causality.specs.Calls.{new, mark, receive, relate}
+use Rattle.causality.specs.Calls.{new, mark, receive, relate, frameAgainSize, frameAgainBytes}
 use Rattle.causality.specs.Meaning.{idOf, creation, numbering, reception, relating}
 use Rattle.desk.specs.declared.Desk.{Desk}
 use Rattle.desk.specs.declared.CreatedDesk.{CreatedDesk}
 use Rattle.desk.specs.declared.MarkedDesk.{MarkedDesk}
 use Rattle.desk.specs.declared.ReceivedDesk.{ReceivedDesk}
 use Rattle.desk.specs.declared.RelatedDesk.{RelatedDesk}
+use Rattle.desk.specs.declared.WrittenDesk.{WrittenDesk}
 use Rattle.desk.specs.StateOf.{stateOf, Kept}
 
 pub record NewPromise (own : ℕ) (r : CreatedDesk) : Type 0 where
@@ -33,3 +36,8 @@ pub record ReceivePromise (d : Desk) (s : List ℕ) (r : ReceivedDesk) : Type 0 
 pub record RelatePromise (d : Desk) (a b : MarkId) (r : RelatedDesk) : Type 0 where
   pub desk : r .desk ≡ d
   pub answer : relating (r .answer) ≡ relate (stateOf d) (idOf a) (idOf b)
+
+pub record FrameAgainPromise (d : Desk) (a : MarkId) (out after : List ℕ) (r : WrittenDesk) : Type 0 where
+  pub desk : r .desk ≡ d
+  pub answer : writing (r .answer) ≡ frameAgainSize desks (stateOf d) (idOf a) (length out)
+  pub bytes : after ≡ frameAgainBytes desks (stateOf d) (idOf a) out

@@ -1,5 +1,6 @@
-// One desk's causality engine: New, Mark, Receive and Relate.
+// One desk's causality engine: New, Mark, Receive, Relate and Frame again.
 mod execute;
+mod frame_again;
 mod judge;
 mod mark;
 mod new;
@@ -13,6 +14,7 @@ use causality::Received;
 use causality::Related;
 use frame::MarkBox;
 use frame::Refusal;
+use frame::Writing;
 use rows::PLACES;
 use rows::WIDTH;
 use waiting::Waiting;
@@ -47,6 +49,11 @@ pub struct ReceivedDesk {
 pub struct RelatedDesk {
     pub desk: Desk,
     pub answer: Related,
+}
+
+pub struct WrittenDesk {
+    pub desk: Desk,
+    pub answer: Writing,
 }
 
 // What Receive finds of a mark: a refusal, or what it does.

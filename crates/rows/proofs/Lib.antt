@@ -1,3 +1,4 @@
+-- The modules of the laws and proofs.
 pub mod RowSteps
 pub mod RowBytes
 pub mod HeadRows

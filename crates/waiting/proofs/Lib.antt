@@ -1,1 +1,2 @@
+-- The modules of the laws and proofs.
 pub mod QueueLaws
