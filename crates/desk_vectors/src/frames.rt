@@ -1,0 +1,80 @@
+// The frames that the cases hand over: each in a slot of one run of bytes.
+use frame::Fields;
+use frame::MarkBox;
+use frame::Number;
+use rows::WIDTH;
+
+// The size of the largest frame.
+pub const ROOM: usize = 23 + 3 * WIDTH;
+
+// The size of a frame by its second byte.
+fn size_of(low: u8) -> usize {
+    low as usize + 2
+}
+
+// The frame that starts at the first of some bytes.
+pub fn whole(lent: &[u8]) -> &[u8] {
+    if 2 <= lent.len() {
+        let size = size_of(lent[1]);
+        if size <= lent.len() {
+            return &lent[0..size];
+        }
+    }
+    &lent[0..0]
+}
+
+// Where a slot starts.
+pub fn start_of(slot: u8) -> usize {
+    slot as usize * ROOM
+}
+
+// The frame in a slot.
+pub fn at(frames: &[u8], slot: u8) -> &[u8] {
+    let start = start_of(slot);
+    if start <= frames.len() {
+        return whole(&frames[start..]);
+    }
+    &frames[0..0]
+}
+
+// The box of the document's frame.
+pub fn extent() -> MarkBox {
+    MarkBox {
+        start: 1000,
+        end: 1500,
+        low: 100,
+        high: 400,
+    }
+}
+
+// The same with start = end.
+pub fn no_extent() -> MarkBox {
+    MarkBox {
+        start: 1000,
+        end: 1000,
+        low: 100,
+        high: 400,
+    }
+}
+
+// Mark 1.2 with an empty stamp, in 23 bytes.
+pub fn false_stamp(out: &mut [u8]) {
+    frame::writer::write(
+        Fields {
+            desk: 1,
+            number: Number(2),
+            extent: extent(),
+        },
+        b"",
+        out,
+    );
+}
+
+// The document's frame of 1.2, in 32 bytes.
+pub fn document(frame: &mut [u8]) {
+    let hex =
+        b"\x00\x1E\x01\x01\x00\x02\x00\x00\x03\xE8\x00\x00\x05\xDC\x00\x00\x00\x64\x00\x00\x01\x90\x03\x01\x00\x01\x02\x00\x01\x03\x00\x01";
+    if hex.len() <= frame.len() {
+        bytes::copy(hex, frame);
+    }
+}

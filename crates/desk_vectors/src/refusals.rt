@@ -1,0 +1,114 @@
+// False stamps, refusals of New, Mark and Receive, and the bytes lent to Mark.
+use crate::calls;
+use crate::frames;
+use crate::show;
+use frame::DESKS;
+
+// What every lent byte holds before Mark is called.
+const FILL: u8 = 0x77;
+
+pub fn new() {
+    calls::new(b"New 0", 0);
+    calls::new(b"New 16", DESKS);
+    let mut space = [0u8; frames::ROOM];
+    let out: &mut [u8] = &mut space;
+    let d = calls::new(b"New 17", DESKS + 1);
+    calls::mark(b"desk of the refused New marks", d, frames::extent(), out);
+    show::name(b"its mark: ", out);
+    show::words(b"\n");
+}
+
+// Mark of a fresh desk into so many bytes.
+fn lend(label: &[u8], lent: usize) {
+    let mut space = [FILL; 25];
+    let out: &mut [u8] = &mut space;
+    let d = calls::new(b"New 1", 1);
+    let e = calls::mark_first(label, d, out, lent);
+    show::bytes(b"bytes", out);
+    calls::relate(b"Relate 1.1, 1.1", e, 1, 1, 1, 1);
+}
+
+pub fn lent() {
+    lend(b"Mark into 22 bytes", 22);
+    lend(b"Mark into 23 bytes", 23);
+}
+
+// 1.1 and 1.2 of desk 1, and 1.2 with an empty stamp, in slots 0 to 2.
+fn stamps(frames: &mut [u8]) {
+    let a = calls::new(b"New 1", 1);
+    let b = calls::mark_in(b"1.1", a, frames, 0);
+    calls::mark_in(b"1.2", b, frames, 1);
+    let start = frames::start_of(2);
+    if start <= frames.len() {
+        frames::false_stamp(&mut frames[start..]);
+    }
+}
+
+// The false stamp waits and is dropped, or is refused; then it is another frame of a known mark.
+fn executed(frames: &[u8]) {
+    let a = calls::new(b"New 2", 2);
+    let b = calls::receive_from(b"1.2 with empty stamp", a, frames, 2);
+    let c = calls::receive_from(b"then 1.1", b, frames, 0);
+    calls::relate(b"Relate 1.1, 1.2", c, 1, 1, 1, 2);
+    let d = calls::receive_from(b"1.2 with empty stamp, 1.1 there", c, frames, 2);
+    let e = calls::receive_from(b"1.2 with its own stamp", d, frames, 1);
+    calls::receive_from(b"1.2 with empty stamp, 1.2 there", e, frames, 2);
+}
+
+// The same of a waiting mark.
+fn waiting(frames: &[u8]) {
+    let a = calls::new(b"New 2", 2);
+    let b = calls::receive_from(b"1.2 with its own stamp, desk 2 fresh", a, frames, 1);
+    let c = calls::receive_from(b"1.2 with empty stamp, 1.2 waiting", b, frames, 2);
+    calls::receive_from(b"1.2 with its own stamp, 1.2 waiting", c, frames, 1);
+}
+
+pub fn false_stamps() {
+    let mut space = [0u8; 3 * frames::ROOM];
+    let frames: &mut [u8] = &mut space;
+    stamps(frames);
+    executed(frames);
+    waiting(frames);
+}
+
+// The document's frame of 1.2 with another byte, received by a fresh desk.
+fn altered(label: &[u8], own: u8, at: usize, value: u8) {
+    let mut space = [0u8; 32];
+    let frame: &mut [u8] = &mut space;
+    frames::document(frame);
+    if at < frame.len() {
+        frame[at] = value;
+    }
+    let d = calls::new(b"New", own);
+    calls::receive(label, d, frame);
+}
+
+fn short(own: u8) {
+    let mut space = [0u8; 32];
+    let frame: &mut [u8] = &mut space;
+    frames::document(frame);
+    let d = calls::new(b"New", own);
+    let whole = &frame[..];
+    if 22 <= whole.len() {
+        calls::receive(b"22 bytes", d, &whole[0..22]);
+    }
+}
+
+fn box_rule() {
+    let mut space = [0u8; 32];
+    let out: &mut [u8] = &mut space;
+    let d = calls::new(b"New", 1);
+    calls::mark(b"start = end", d, frames::no_extent(), out);
+}
+
+pub fn receive() {
+    short(2);
+    altered(b"hex frame of 1.2", 2, 2, 1);
+    altered(b"version 2", 2, 2, 2);
+    altered(b"17 entries counted", 2, 22, DESKS + 1);
+    altered(b"desk 17", 2, 3, DESKS + 1);
+    altered(b"entry (4,1) before (3,1)", 2, 26, 4);
+    altered(b"1.2 at desk 1", 1, 2, 1);
+    altered(b"1.2 at desk 3, entry (3,1) not made", 3, 2, 1);
+    box_rule();
+}
