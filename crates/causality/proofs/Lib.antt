@@ -4,6 +4,7 @@ pub mod Lists
 pub mod Past
 pub mod Numbers
 pub mod Cases
+pub mod Refusals
 pub mod Reach
 pub mod Room
 pub mod Rows
@@ -11,5 +12,6 @@ pub mod Heads
 pub mod Fit
 pub mod Kept
 pub mod RowLaws
+pub mod Apart
 pub mod Examples
 pub mod Laws

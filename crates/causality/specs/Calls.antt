@@ -1,7 +1,7 @@
 -- The seven calls of document 01, as functions of the state, of bytes and of lent memory. Conditions by rising number.
 use mathlib.Core.Bool.{Bool, true, false, not, _&&_, _||_}
 use mathlib.Core.List.{List, [], _∷_, _++_, reverse}
-use mathlib.Core.Option.{Option, none, some}
+use mathlib.Core.Option.{none, some}
 use Prim.Native.Nat.{ℕ, zero, suc, _+_, min}
 use lib.Dec.{ltb, eqb}
 use lib.ListN.{length}
@@ -11,7 +11,7 @@ use Rattle.frame.specs.Frame.{edition, entriesOf, entryBytes, fieldsOf, frameOf
 use Rattle.frame.specs.declared.Fields.{Fields}
 use Rattle.frame.specs.declared.MarkBox.{MarkBox}
 use Rattle.causality.specs.Answers.{Numbered, Reception, Known, Waiting, Executed, Relation, Same, Before, After, Concurrent}
-use Rattle.causality.specs.Marks.{places, waitingPlaces, same, any, all, keep, has, tally, find, without, lowest}
+use Rattle.causality.specs.Marks.{places, waitingPlaces, same, any, keep, has, tally, find, without, lowest}
 use Rattle.causality.specs.State.{Mark, markId, State, ids, precedes, concurrent, heads, ready, falseStamp}
 
 -- NEW

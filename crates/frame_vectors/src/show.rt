@@ -7,25 +7,6 @@ use frame::Writing;
 // What every lent byte holds before the writer is called.
 pub const FILL: u8 = 0x77;
 
-// The document's number of a refusal.
-fn number_of(r: Refusal) -> u64 {
-    match r {
-        Refusal::DeskRange => 1,
-        Refusal::FrameLength => 2,
-        Refusal::FrameVersion => 3,
-        Refusal::EntryCount => 4,
-        Refusal::FieldRange => 5,
-        Refusal::EntryRange => 6,
-        Refusal::NotYetMade => 7,
-        Refusal::OtherBytes => 8,
-        Refusal::DeskFull => 9,
-        Refusal::WaitingFull => 10,
-        Refusal::FalseStamp => 11,
-        Refusal::NotExecuted => 12,
-        Refusal::OutputShort => 13,
-    }
-}
-
 fn number(words: &[u8], n: u64) {
     io::write_all(1, words);
     io::print_decimal(1, n);
@@ -74,7 +55,7 @@ pub fn read(label: &[u8], frame: &[u8]) {
     io::write_all(1, label);
     match frame::reader::fields(frame) {
         Reading::Fields(f) => fields(f),
-        Reading::Refused(r) => number(b": refused ", number_of(r)),
+        Reading::Refused(r) => number(b": refused ", r.number() as u64),
     }
     bytes(b", entries ", frame::reader::entries(frame));
     io::write_all(1, b"\n");
@@ -93,7 +74,7 @@ pub fn write(label: &[u8], f: Fields, entries: &[u8], out: &mut [u8]) {
     match frame::writer::write(f, entries, out) {
         Writing::Size(size) => written(size, out),
         Writing::Refused(r) => {
-            number(b": refused ", number_of(r));
+            number(b": refused ", r.number() as u64);
             kept(out);
         }
     }

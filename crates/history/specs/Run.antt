@@ -1,14 +1,13 @@
 -- The run of the desks over a sequence of steps, over bytes.
-use mathlib.Core.Bool.{Bool, true, false}
-use mathlib.Core.List.{List, [], _∷_, map}
-use mathlib.Core.Option.{Option, none, some}
+use mathlib.Core.List.{List, [], _∷_}
+use mathlib.Core.Option.{none, some}
 use Prim.Native.Nat.{ℕ}
 use lib.ListN.{length, take}
 use Rattle.frame.specs.Answer.{Answer, gives, refused}
 use Rattle.frame.specs.Mark.{MarkId}
 use Rattle.frame.specs.declared.MarkBox.{MarkBox}
 use Rattle.causality.specs.Answers.{Numbered}
-use Rattle.causality.specs.Marks.{same, find}
+use Rattle.causality.specs.Marks.{find}
 use Rattle.causality.specs.State.{State}
 use Rattle.causality.specs.Calls.{new, mark, receive}
 use Rattle.history.specs.Plain.{PlainStep, makingAt, handOverAt, StepAnswer, ofMark, ofReceive, Unmade, look}

@@ -1,0 +1,43 @@
+-- A refusal leaves the state and the lent bytes as found. Assumes nothing.
+use Prim.Native.Nat.{ℕ}
+use lib.ListN.{length}
+use mathlib.Core.List.{List}
+use mathlib.Core.Path.{_≡_, refl}
+use native.Mathlib.Omega.{arith}
+use Rattle.frame.specs.declared.Fields.{Fields}
+use Rattle.frame.specs.declared.MarkBox.{MarkBox}
+use Rattle.frame.specs.Answer.{Answer, gives, refused}
+use Rattle.frame.specs.Frame.{edition, overIf, readFields}
+use Rattle.causality.specs.Answers.{Numbered}
+use Rattle.causality.specs.Calls.{Received, execute, executing, frameOfMark, ifRead, mark, markAnswer, markIn, newMark, receive, receiveMark, refuse, stateIf}
+use Rattle.causality.specs.State.{Mark, State}
+use Rattle.causality.proofs.Cases.{ReceiveCase, executes, receive-case, stays, waits}
+
+-- No answer is a refusal.
+gives-refused : {A : Type 0} (a : A) (c : ℕ) → gives a ≡ refused c → ⊥
+gives-refused a c e = let z : _≡_ {A = ℕ} 0 1 = cc in omega arith
+
+case-refused : (st : State) (m : Mark) (r : Received) (c : ℕ) → ReceiveCase st m r → r .answer ≡ refused c → r .state ≡ st
+unfolding executing
+case-refused st m r c (stays a) e = refl
+case-refused st m r c (waits w b f) e = absurd (gives-refused _ c e)
+case-refused st m r c (executes w b f) e = absurd (gives-refused _ c e)
+
+pub receive-refused : (N : ℕ) (st : State) (s : List ℕ) (c : ℕ) → receive N st s .answer ≡ refused c → receive N st s .state ≡ st
+unfolding receive refuse
+receive-refused N st s c = go (readFields (edition N) s)
+  where
+    r : Received
+    r = receiveMark N st (markIn N s) s
+
+    go : (a : Answer Fields) → ifRead a st r .answer ≡ refused c → ifRead a st r .state ≡ st
+    go (gives f) e = case-refused st (markIn N s) r c (receive-case N st (markIn N s) s) e
+    go (refused k) e = refl
+
+pub mark-refused : (N : ℕ) (st : State) (b : MarkBox) (out : List ℕ) (c : ℕ) → mark N st b out .answer ≡ refused c → (mark N st b out .state ≡ st) × (mark N st b out .bytes ≡ out)
+unfolding mark
+mark-refused N st b out c = go (markAnswer N st b (length out))
+  where
+    go : (a : Answer Numbered) → a ≡ refused c → (stateIf a (execute (newMark st b) st) st ≡ st) × (overIf a (frameOfMark N (newMark st b)) out ≡ out)
+    go (gives n) e = absurd (gives-refused n c e)
+    go (refused k) e = (refl, refl)
