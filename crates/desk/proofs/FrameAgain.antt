@@ -17,12 +17,12 @@ use Rattle.causality.specs.Calls.{frameAgainBytes, frameAgainSize, frameOfMark,
 use Rattle.causality.specs.Marks.{find}
 use Rattle.causality.specs.Meaning.{idOf}
 use Rattle.causality.specs.State.{Mark, markId}
-use Rattle.rows.specs.View.{markAt, width}
+use Rattle.rows.specs.View.{boxAt, markAt, width}
 use Rattle.waiting.specs.Queue.{heldMark}
 use Rattle.desk.specs.Promises.{FrameAgainPromise}
 use Rattle.desk.specs.StateOf.{stateOf}
-use Rattle.desk.proofs.Places.{found-none, found-some}
-use Rattle.desk.proofs.Relating.{FoundAt}
+use Rattle.rows.proofs.Places.{found-none, found-some}
+use Rattle.queries.proofs.Relating.{FoundAt}
 
 module _ (d : Desk) (a : MarkId) (out : List ℕ) where
   -- The definition where it is known what is found.
@@ -36,15 +36,15 @@ module _ (d : Desk) (a : MarkId) (out : List ℕ) where
   unfolding frameAgainBytes
   bytes-by o e = λ i. elim (e i) [ none ↦ out | some m ↦ overIf (sizeOfMark desks m (length out)) (frameOfMark desks m) out ]
 
-  module _ (p : ℕ) (f : FoundAt d (idOf a) p) where
+  module _ (p : ℕ) (f : FoundAt (d .count) (d .desks) (d .numbers) (boxAt (d .boxes)) (d .stamps) (d .own) ((stateOf d) .waiting) (idOf a) p) where
     pub not-executed : d .count ≤ p → FrameAgainPromise d a out out (record { desk = d; answer = NotWritten NotExecuted })
     not-executed h =
-        let e = found-none width (d .desks) (d .numbers) (d .boxes) (d .stamps) (d .count) p (idOf a) h f .0 in
+        let e = found-none width (d .desks) (d .numbers) (boxAt (d .boxes)) (d .stamps) (d .count) p (idOf a) h f .0 in
         record { desk = refl; answer = sym (size-by none e); bytes = sym (bytes-by none e) }
 
-    pub written-again : p < d .count → (m : Held) → heldMark m ≡ markAt width (d .desks) (d .numbers) (d .boxes) (d .stamps) p → (w : Writing) (after : List ℕ)
+    pub written-again : p < d .count → (m : Held) → heldMark m ≡ markAt width (d .desks) (d .numbers) (boxAt (d .boxes)) (d .stamps) p → (w : Writing) (after : List ℕ)
         → writing w ≡ sizeOfMark desks (heldMark m) (length out) → after ≡ overIf (sizeOfMark desks (heldMark m) (length out)) (frameOfMark desks (heldMark m)) out
         → FrameAgainPromise d a out after (record { desk = d; answer = w })
     written-again h m r w after size bytes =
-        let e : find markId (idOf a) ((stateOf d) .executed) ≡ some (heldMark m) = found-some width (d .desks) (d .numbers) (d .boxes) (d .stamps) (d .count) p (idOf a) h f .0 ∙ ap some (sym r) in
+        let e : find markId (idOf a) ((stateOf d) .executed) ≡ some (heldMark m) = found-some width (d .desks) (d .numbers) (boxAt (d .boxes)) (d .stamps) (d .count) p (idOf a) h f .0 ∙ ap some (sym r) in
         record { desk = refl; answer = size ∙ sym (size-by (some (heldMark m)) e); bytes = bytes ∙ sym (bytes-by (some (heldMark m)) e) }

@@ -17,7 +17,7 @@ use Rattle.causality.proofs.Logic.{and-fst, and-intro, and-snd, bool-ext, split
 use Rattle.causality.proofs.RowLaws.{entriesOfRow, row-of-entries, show, shown}
 use Rattle.causality.proofs.Rows.{rowOf}
 use Rattle.rows.specs.View.{rowFn, sameCounts}
-use Rattle.desk.proofs.ByRows.{entries-cong}
+use Rattle.rows.proofs.ByRows.{entries-cong}
 use Rattle.history.proofs.Simulation.{start}
 
 -- 7: of this desk and not yet made, by the tally's count for this desk.

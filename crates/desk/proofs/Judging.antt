@@ -20,15 +20,15 @@ use Rattle.causality.proofs.Lists.{Picked, find-all}
 use Rattle.causality.proofs.Logic.{same→eq}
 use Rattle.causality.proofs.Reach.{sound-counted}
 use Rattle.causality.proofs.RowLaws.{entriesOfRow}
-use Rattle.rows.specs.View.{allWithin, markAt, placeAt, rowFn, sameCounts, view, width}
+use Rattle.rows.specs.View.{allWithin, boxAt, markAt, placeAt, rowFn, sameCounts, view, width}
 use Rattle.waiting.specs.Queue.{heldId, heldMark, heldsOf, noHeld, slotAt}
 use Rattle.desk.specs.StateOf.{stateOf}
 use Rattle.desk.specs.Steps.{Tallies, admission, holds, judgement, knownIf, meeting, refuses, runs, sameBox}
-use Rattle.desk.proofs.Arrays.{view-at}
-use Rattle.desk.proofs.ByRows.{ready-by-tally, row-at}
+use Rattle.rows.proofs.Arrays.{view-at}
+use Rattle.rows.proofs.ByRows.{ready-by-tally, row-at}
 use Rattle.desk.proofs.Invariant.{executed-length, kept-fit, kept-own, kept-sound, kept-waiting-fit, waiting-length}
 use Rattle.desk.proofs.Judged.{known-by-row, unmade-by-row}
-use Rattle.desk.proofs.Places.{found-some}
+use Rattle.rows.proofs.Places.{found-some}
 use Rattle.desk.proofs.Receiving.{find-held, helds-at, slot-found, slot-missed}
 
 module _ (d : Desk) (h : Held) (t : List ℕ) (k : Kept d) (f : Fit desks (heldMark h)) (ts : Tallies d t) where
@@ -95,12 +95,12 @@ module _ (d : Desk) (h : Held) (f : Fit desks (heldMark h)) where
       g′ = subst (λ (i : MarkId). Fit desks (record { id = i; extent = a .extent; stamp = entriesOfRow width (rowFn (a .row)) })) e g
 
   pub meet-executed : (k : Kept d) (p : ℕ) (a : Held) → p < d .count
-      → placeAt width (d .count) p (d .desks) (d .numbers) (d .boxes) (d .stamps) ≡ find markId (heldId h) ((stateOf d) .executed)
-      → heldMark a ≡ markAt width (d .desks) (d .numbers) (d .boxes) (d .stamps) p
+      → placeAt width (d .count) p (d .desks) (d .numbers) (boxAt (d .boxes)) (d .stamps) ≡ find markId (heldId h) ((stateOf d) .executed)
+      → heldMark a ≡ markAt width (d .desks) (d .numbers) (boxAt (d .boxes)) (d .stamps) p
       → knownIf (sameBox (a .extent) (h .extent) && sameCounts width (rowFn (a .row)) (rowFn (h .row))) ≡ meeting (stateOf d) (heldMark h) (frameOfMark desks (heldMark h))
   meet-executed k p a l e m =
-      let s = found-some width (d .desks) (d .numbers) (d .boxes) (d .stamps) (d .count) p (heldId h) l e in
-      let g = view-at width (Fit desks) (d .count) (d .desks) (d .numbers) (d .boxes) (d .stamps) (kept-fit d k) p l in
+      let s = found-some width (d .desks) (d .numbers) (boxAt (d .boxes)) (d .stamps) (d .count) p (heldId h) l e in
+      let g = view-at width (Fit desks) (d .count) (d .desks) (d .numbers) (boxAt (d .boxes)) (d .stamps) (kept-fit d k) p l in
       meet-held a (subst (Fit desks) (sym m) g) (ap (λ (x : Mark). x .id) m ∙ s .1)
       (find-append (heldId h) ((stateOf d) .executed) ((stateOf d) .waiting) ∙ ap (λ (o : Option Mark). orElse o (find markId (heldId h) ((stateOf d) .waiting))) (s .0 ∙ ap some (sym m)))
 
@@ -148,5 +148,5 @@ module _ (d : Desk) (h : Held) (t : List ℕ) (k : Kept d) (ts : Tallies d t) wh
 
 -- The tally's contract as a fact of rows.
 pub tallies : (d : Desk) (t : List ℕ)
-    → ((ns ss : List ℕ) (bs : List MarkBox) (j : ℕ) → j < width → getD t j 0 ≡ tally (suc j) (ids (view width (d .count) (d .desks) ns bs ss))) → Tallies d t
-tallies d t f = row-at width t (λ e. tally e (ids ((stateOf d) .executed))) (λ j l. f (d .numbers) (d .stamps) (d .boxes) j l)
+    → ((ns ss : List ℕ) (bs : ℕ → MarkBox) (j : ℕ) → j < width → getD t j 0 ≡ tally (suc j) (ids (view width (d .count) (d .desks) ns bs ss))) → Tallies d t
+tallies d t f = row-at width t (λ e. tally e (ids ((stateOf d) .executed))) (λ j l. f (d .numbers) (d .stamps) (boxAt (d .boxes)) j l)

@@ -1,9 +1,6 @@
 -- The modules of the laws and proofs.
-pub mod ByRows
-pub mod Arrays
-pub mod Places
 pub mod Invariant
-pub mod Relating
+pub mod Canonical
 pub mod Judged
 pub mod JudgeLaws
 pub mod MarkLaws
@@ -11,8 +8,10 @@ pub mod Marking
 pub mod Stores
 pub mod Receiving
 pub mod Releasing
+pub mod Running
 pub mod Judging
 pub mod Turns
 pub mod Receipt
 pub mod FrameAgain
+pub mod LentPairs
 pub mod Demand3

@@ -1,9 +1,7 @@
 -- The next mark of a desk and the frame of a mark that is held, by what the row functions and the writer ensure. Assumes nothing.
 use Prim.Native.Nat.{_+_, _-_, _<_, _≤_, suc, ℕ}
-use borrow.Author.Tests.{eqb-false}
 use lib.Dec.{T}
 use lib.ListN.{getD, length, take}
-use mathlib.Core.Bool.{false}
 use mathlib.Core.List.{List}
 use mathlib.Core.Path.{_∙_, _≡_, ap, refl}
 use native.Mathlib.Omega.{arith}
@@ -13,8 +11,8 @@ use Rattle.desk.specs.declared.Desk.{Desk}
 use Rattle.frame.specs.Answer.{Answer}
 use Rattle.frame.specs.Frame.{entryBytes, ours, overIf, writeBytes, writeSize}
 use Rattle.frame.specs.Mark.{MarkId, desks}
-use Rattle.causality.specs.Calls.{fieldsOfMark, frameOfMark, full, newMark, sizeOfMark}
-use Rattle.causality.specs.Marks.{has, places, tally}
+use Rattle.causality.specs.Calls.{fieldsOfMark, frameOfMark, newMark, sizeOfMark}
+use Rattle.causality.specs.Marks.{has, tally}
 use Rattle.causality.specs.State.{Mark, heads, ids}
 use Rattle.causality.proofs.Fit.{Range}
 use Rattle.causality.proofs.Lists.{all-ids, all-map, tally-length}
@@ -23,11 +21,12 @@ use Rattle.causality.proofs.Past.{Standing, heads-has}
 use Rattle.causality.proofs.Reach.{local, local-hist}
 use Rattle.causality.proofs.RowLaws.{entriesOfRow}
 use Rattle.causality.proofs.Rows.{rowOf}
-use Rattle.rows.specs.View.{rowFn, width}
+use Rattle.rows.specs.View.{noBox, rowFn, view, width}
 use Rattle.waiting.specs.Queue.{heldMark}
 use Rattle.desk.specs.StateOf.{Kept, stateOf}
-use Rattle.desk.proofs.ByRows.{row-at, row-entries}
-use Rattle.desk.proofs.Invariant.{kept-fit, kept-own, kept-sound, kept-state}
+use Rattle.rows.proofs.Arrays.{view-length}
+use Rattle.rows.proofs.ByRows.{row-at, row-entries}
+use Rattle.desk.proofs.Invariant.{kept-fit, kept-own, kept-sound}
 
 -- A part of an array from its start on is its first elements.
 pub first-part : (bytes : List ℕ) (size : ℕ) → take (size - 0) bytes ≡ take size bytes
@@ -44,19 +43,19 @@ module _ (h : Held) (es : List ℕ) (e : es ≡ entryBytes (entriesOfRow width (
   unfolding sizeOfMark frameOfMark fieldsOfMark writeBytes
   held-bytes out after f = f ∙ ap (λ (x : List ℕ). writeBytes ours (record { desk = h .desk; number = h .number; extent = h .extent }) x out) e
 
+-- No count of a tally is above the number of marks.
+pub tally-small : (count : ℕ) (ds t : List ℕ) → ((ns ss : List ℕ) (bs : ℕ → MarkBox) (j : ℕ) → j < width → getD t j 0 ≡ tally (suc j) (ids (view width count ds ns bs ss)))
+    → (j : ℕ) → j < width → getD t j 0 ≤ count
+tally-small count ds t f j l =
+    let e = f ds ds (λ p. noBox) j l in
+    let a = tally-length (suc j) (view width count ds ds (λ p. noBox) ds) in
+    let n = view-length width count ds ds (λ p. noBox) ds in
+    omega arith
+
 -- What `rows::tally` and `rows::heads` ensure of a kept desk's rows.
 module _ (d : Desk) (k : Kept d) where
-  pub own-count : (t : List ℕ) → ((j : ℕ) → j < width → getD t j 0 ≡ tally (suc j) (ids ((stateOf d) .executed))) → getD t (d .own - 1) 0 ≡ tally (d .own) (ids ((stateOf d) .executed))
+  own-count : (t : List ℕ) → ((j : ℕ) → j < width → getD t j 0 ≡ tally (suc j) (ids ((stateOf d) .executed))) → getD t (d .own - 1) 0 ≡ tally (d .own) (ids ((stateOf d) .executed))
   own-count t f = row-at width t (λ e. tally e (ids ((stateOf d) .executed))) f (d .own) (kept-own d k .0) (kept-own d k .1)
-
-  -- There is a number for one mark more.
-  pub next-number : full (stateOf d) ≡ false → tally (d .own) (ids ((stateOf d) .executed)) < places
-  unfolding full
-  next-number room =
-      let a = tally-length (d .own) ((stateOf d) .executed) in
-      let c = kept-state d k .still .room .total in
-      let n : ¬ (length ((stateOf d) .executed) + length ((stateOf d) .waiting) ≡ places) = eqb-false _ _ room in
-      omega arith
 
   heads-stamp : (row : List ℕ) → ((j : ℕ) → j < width → getD row j 0 ≡ rowOf (heads ((stateOf d) .executed)) (suc j)) → entriesOfRow width (rowFn row) ≡ heads ((stateOf d) .executed)
   heads-stamp row f = row-entries width (heads l) row (heads-strict (local l) l h) range f

@@ -1,11 +1,12 @@
 -- Mark by its ways out: the answer, the desk and the lent bytes that the definition has at each, from what the code found there. Assumes nothing.
-use Prim.Native.Nat.{_+_, ℕ}
+use Prim.Native.Nat.{_+_, _<_, ℕ}
 use borrow.Author.Tests.{eq-eqb, ne-eqb}
 use lib.Dec.{eqb}
 use lib.ListN.{length}
 use mathlib.Core.Bool.{Bool, false, not, true}
 use mathlib.Core.List.{List}
 use mathlib.Core.Path.{_∙_, _≡_, ap, refl, subst, sym}
+use native.Mathlib.Omega.{arith}
 use Rattle.frame.specs.declared.MarkBox.{MarkBox}
 use Rattle.frame.specs.declared.Refusal.{Refusal}
 use Rattle.frame.specs.declared.Refusal.the-variants.{DeskFull, FieldRange}
@@ -25,7 +26,7 @@ use Rattle.waiting.specs.Queue.{heldMark}
 use Rattle.desk.specs.Promises.{MarkPromise}
 use Rattle.desk.specs.StateOf.{Kept, Unused, stateOf}
 use Rattle.desk.specs.Steps.{Executes}
-use Rattle.desk.proofs.Invariant.{executed-length, waiting-length}
+use Rattle.desk.proofs.Invariant.{executed-length, kept-total, waiting-length}
 
 -- The definition where its tests and the writer's answer are known.
 module _ (st : State) (b : MarkBox) (out : List ℕ) where
@@ -50,6 +51,9 @@ module _ (d : Desk) where
 
   pub counts-room : (d .count + d .queue .count ≡ places → ⊥) → full (stateOf d) ≡ false
   counts-room f = full-counts ∙ ne-eqb (d .count + d .queue .count) places f
+
+  pub counts-place : Kept d → (d .count + d .queue .count ≡ places → ⊥) → d .count < places
+  counts-place k f = let l = kept-total d k in omega arith
 
 module _ (d : Desk) (k : Kept d) (b : MarkBox) (out : List ℕ) where
   -- What came of the call is a desk that came from the calls.

@@ -1,27 +1,27 @@
 -- Receive, from its verdict to its promise. Assumes nothing.
 use Rattle.causality.specs.declared.Received.{Received as Receipt}
-use Rattle.causality.specs.declared.Received.the-variants.{Executed as ExecutedBoth}
-use Prim.Native.Nat.{_+_, _<_, suc, ℕ}
+use Prim.Native.Nat.{_<_, suc, ℕ}
 use borrow.Author.Tests.{eqb-false}
 use lib.ListN.{getD, length}
+use mathlib.Core.Bool.{false, true}
 use mathlib.Core.List.{List, _∷_, map}
 use mathlib.Core.Path.{_∙_, _≡_, ap, refl, subst, sym}
 use native.Mathlib.Omega.{arith}
 use Rattle.frame.specs.declared.Fields.{Fields}
 use Rattle.waiting.specs.declared.Held.{Held}
+use Rattle.desk.specs.declared.Arrival.{Arrival}
 use Rattle.desk.specs.declared.Desk.{Desk}
 use Rattle.waiting.specs.declared.Waiting.{Waiting as Queue}
 use Rattle.desk.specs.StateOf.{Kept}
 use Rattle.desk.specs.declared.ReceivedDesk.{ReceivedDesk}
-use Rattle.desk.specs.declared.Released.{Released}
 use Rattle.frame.specs.Answer.{gives, refused}
 use Rattle.frame.specs.Frame.{entriesOf, ours, readEntries, readFields}
 use Rattle.frame.specs.Mark.{desks}
 use Rattle.frame.specs.RoundTrip.{AreBytes}
 use Rattle.frame.proofs.RoundTrip.{accepted}
-use Rattle.causality.specs.Answers.{Executed, Known, Waiting}
-use Rattle.causality.specs.Calls.{FromCalls, Received, executing, frameOfMark, full, markIn, receive, receiveMark, received, refuse, release}
-use Rattle.causality.specs.Marks.{places, waitingPlaces}
+use Rattle.causality.specs.Answers.{Known, Waiting}
+use Rattle.causality.specs.Calls.{FromCalls, Received, frameOfMark, markIn, receive, receiveMark, received, refuse}
+use Rattle.causality.specs.Marks.{waitingPlaces}
 use Rattle.causality.specs.Meaning.{reception}
 use Rattle.causality.specs.State.{Mark, State, ready}
 use Rattle.causality.proofs.Fit.{Fit, accepted-bytes, frame-fit}
@@ -30,12 +30,10 @@ use Rattle.rows.specs.View.{width}
 use Rattle.waiting.specs.Queue.{Queued, heldMark, heldsOf}
 use Rattle.desk.specs.Promises.{ReceivePromise}
 use Rattle.desk.specs.StateOf.{Unused, stateOf}
-use Rattle.desk.specs.Steps.{Executable, Executes, ExecutingPromise, Judgement, MidState, Midway, ReceiveMarkPromise, ReleasePromise, holds, judgement, knows, refuses, runs}
-use Rattle.desk.proofs.ByRows.{row-entries}
-use Rattle.desk.proofs.Invariant.{executed-length, kept-few, kept-total, waiting-length}
+use Rattle.desk.specs.Steps.{Arrives, Executable, ExecutingPromise, Judgement, ReceiveMarkPromise, holds, judgement, knows, refuses, runs, withQueue}
+use Rattle.rows.proofs.ByRows.{row-entries}
+use Rattle.desk.proofs.Invariant.{kept-few, waiting-length}
 use Rattle.desk.proofs.Receiving.{act, judged-holds, judged-runs, receive-act}
-use Rattle.desk.proofs.Releasing.{mid-arrived}
-use Rattle.desk.proofs.Turns.{withQueue}
 
 -- BY THE VERDICT
 
@@ -87,41 +85,23 @@ module _ (d : Desk) (k : Kept d) (h : Held) where
       let p = by-judgement (stateOf d) (heldMark h) (frameOfMark desks (heldMark h)) runs (sym e) in
       record { state = x .state ∙ sym (ap (λ (x : Received). x .state) p); answer = x .answer ∙ sym (ap (λ (x : Received). x .answer) p); unused = x .unused }
 
-  -- EXECUTION
+-- WHAT COMES OF IT
 
-  module _ (f : Fit desks (heldMark h)) (x : Executable d h) where
-    pub room-executed : d .count < places
-    unfolding full
-    room-executed =
-        let n : ¬ (length ((stateOf d) .executed) + length ((stateOf d) .waiting) ≡ places) = eqb-false _ _ (x .room) in
-        let a = executed-length d in
-        let w = waiting-length d in
-        let t = kept-total d k in
-        omega arith
+module _ (d : Desk) (P : ReceivedDesk → Type 0) (a : Arrival) (h : Held) (x : Receipt) where
+  pub arrives-rests : (q : Queue) → a ≡ record { next = record { found = false; drops = false; held = h; queue = q }; answer = x } → P (record { desk = withQueue d q; answer = x }) → Arrives d P a
+  arrives-rests q e p = subst (Arrives d P) (sym e) (record {
+    rests = λ r. p;
+    starts = λ r. let z : _≡_ {A = ℕ} 0 1 = cc in absurd (omega arith);
+    runs = λ r. let z : _≡_ {A = ℕ} 0 1 = cc in absurd (omega arith);
+  })
 
-    module _ (e : Desk) (es : Executes d h e) where
-      pub midway-executed : Midway e
-      midway-executed = record {
-        mid = subst MidState (sym (es .state)) (mid-arrived (stateOf d) (heldMark h) (k .from) f (record { made = x .made; absent = x .absent; room = x .room }) (x .ready) (x .true-stamp));
-        unused = es .unused;
-      }
-
-      pub promise-executing : (r : Released) → ReleasePromise e r → ExecutingPromise d h (record { desk = r .desk; answer = ExecutedBoth (r .executed) (r .dropped) })
-      unfolding executing
-      promise-executing r p = record {
-        state = let q = sym done in λ i. record { own = own i; executed = (q i) .executed; waiting = (q i) .waiting };
-        answer = let q = sym done in λ i. gives (Executed ((q i) .k) ((q i) .f));
-        unused = p .unused;
-      }
-        where
-          st : State
-          st = stateOf d
-
-          own : (r .desk) .own ≡ d .own
-          own = p .own ∙ ap (λ (y : State). y .own) (es .state)
-
-          done : release (length (st .waiting)) (heldMark h ∷ st .executed) (st .waiting) 1 0 ≡ record { executed = (stateOf (r .desk)) .executed; waiting = (stateOf (r .desk)) .waiting; k = r .executed; f = r .dropped }
-          done = ap (λ (y : State). release (length (y .waiting)) (y .executed) (y .waiting) 1 0) (sym (es .state)) ∙ p .done
+  pub arrives-runs : a ≡ record { next = record { found = true; drops = false; held = h; queue = d .queue }; answer = x } → Fit desks (heldMark h) → Executable d h
+      → ((r : ReceivedDesk) → ExecutingPromise d h r → P r) → Arrives d P a
+  arrives-runs e f y g = subst (Arrives d P) (sym e) (record {
+    rests = λ r. let z : _≡_ {A = ℕ} 0 1 = cc in absurd (omega arith);
+    starts = λ r. record { queue = refl; drops = refl; fit = f; executable = y };
+    runs = λ r. g;
+  })
 
 -- FROM THE FRAME
 
@@ -133,7 +113,7 @@ module _ (d : Desk) (k : Kept d) (s : List ℕ) where
   unfolding receive refuse
   receipt-refused c a e q = record { state = rw (sym e, receive) refl; answer = q ∙ rw (sym e, receive) refl; kept = k }
 
-  pub receipt-mark : (f : Fields) → gives f ≡ readFields ours s → AreBytes s → (h : Held) → heldMark h ≡ markIn desks s → (r : ReceivedDesk) → ReceiveMarkPromise d h r → ReceivePromise d s r
+  receipt-mark : (f : Fields) → gives f ≡ readFields ours s → AreBytes s → (h : Held) → heldMark h ≡ markIn desks s → (r : ReceivedDesk) → ReceiveMarkPromise d h r → ReceivePromise d s r
   unfolding receive
   receipt-mark f e b h m r p = record { state = state; answer = p .answer ∙ ap (λ (x : Received). x .answer) same; kept = kept-after (r .desk) state (p .unused) }
     where
@@ -142,6 +122,14 @@ module _ (d : Desk) (k : Kept d) (s : List ℕ) where
 
       state : stateOf (r .desk) ≡ (receive desks (stateOf d) s) .state
       state = p .state ∙ ap (λ (x : Received). x .state) same
+
+  -- What comes of the mark comes of its frame.
+  pub arrives-mark : (f : Fields) → gives f ≡ readFields ours s → AreBytes s → (h : Held) → heldMark h ≡ markIn desks s → (a : Arrival) → Arrives d (ReceiveMarkPromise d h) a → Arrives d (ReceivePromise d s) a
+  arrives-mark f e b h m a x = record {
+    rests = λ q. receipt-mark f e b h m _ (x .rests q);
+    starts = x .starts;
+    runs = λ q r p. receipt-mark f e b h m r (x .runs q r p);
+  }
 
 -- The mark that the code makes of a frame is the mark in it.
 pub made-mark : (s : List ℕ) (f : Fields) → gives f ≡ readFields ours s → (row : List ℕ) → ((j : ℕ) → j < width → getD row j 0 ≡ rowOf (entriesOf (readEntries ours s)) (suc j))

@@ -1,17 +1,16 @@
--- One turn of the release in the code: what its tests and stores come to. Assumes nothing.
-use Rattle.desk.specs.declared.Turn.the-variants.{Rests, Executes as Executed, Drops}
+-- What the release does next: the tests of the code on a desk between two steps. Assumes nothing.
 use Prim.Native.Nat.{_+_, _<_, _≤_, ℕ}
 use lib.Dec.{T}
 use lib.ListN.{getD}
 use mathlib.Core.Bool.{false, true}
-use mathlib.Core.List.{List, _∷_, map}
-use mathlib.Core.Option.{Option·map, some}
-use mathlib.Core.Path.{_∙_, _≡_, ap, refl, subst, sym}
+use mathlib.Core.List.{List, map}
+use mathlib.Core.Option.{Option·map, none, some}
+use mathlib.Core.Path.{_∙_, _≡_, ap, subst, sym}
 use native.Mathlib.Omega.{arith}
 use Rattle.waiting.specs.declared.Held.{Held}
 use Rattle.desk.specs.declared.Desk.{Desk}
-use Rattle.waiting.specs.declared.Waiting.{Waiting as Queue}
-use Rattle.frame.specs.Mark.{desks, numbers}
+use Rattle.desk.specs.declared.Next.{Next}
+use Rattle.frame.specs.Mark.{desks}
 use Rattle.causality.specs.Marks.{All, lowest, places, without}
 use Rattle.causality.specs.State.{falseStamp, markId, ready}
 use Rattle.causality.proofs.Fit.{Fit}
@@ -19,16 +18,11 @@ use Rattle.causality.proofs.Lists.{Picked, all-map, lowest-picked}
 use Rattle.causality.proofs.Reach.{sound-counted}
 use Rattle.rows.specs.View.{Named, width}
 use Rattle.waiting.specs.Queue.{HeldNamed, Queued, heldId, heldMark, heldsOf, noHeld, readyBy, slotAt}
-use Rattle.desk.specs.StateOf.{Unused, stateOf}
-use Rattle.desk.specs.Steps.{Executes, MidState, Midway, Tallies, TurnPromise}
-use Rattle.desk.proofs.ByRows.{ready-by-tally}
+use Rattle.desk.specs.StateOf.{stateOf}
+use Rattle.desk.specs.Steps.{Midway, NextPromise, Tallies}
+use Rattle.rows.proofs.ByRows.{ready-by-tally}
 use Rattle.desk.proofs.Invariant.{executed-length, fit-named, waiting-length}
-use Rattle.desk.proofs.Receiving.{all-held, helds-at, lowest-held, slot-found, slot-missed, without-held}
-use Rattle.desk.proofs.Releasing.{mid-dropped, mid-executed}
-
--- The desk with other waiting marks.
-abbrev pub withQueue : Desk → Queue → Desk
-withQueue d q = record { own = d .own; count = d .count; desks = d .desks; numbers = d .numbers; boxes = d .boxes; stamps = d .stamps; queue = q }
+use Rattle.desk.proofs.Receiving.{all-held, helds-at, lowest-held, slot-found, slot-missed}
 
 module _ (d : Desk) (m : Midway d) where
   pub mid-named : Named width (d .count) (d .desks)
@@ -56,38 +50,40 @@ module _ (d : Desk) (m : Midway d) where
     lowest-is = lowest-held (ready ((stateOf d) .executed)) (readyBy t) (heldsOf (d .queue .count) (d .queue .held)) (held-ready (heldsOf (d .queue .count) (d .queue .held)) (all-held (Fit desks) (heldsOf (d .queue .count) (d .queue .held)) (m .mid .waiting)))
 
     module _ (i : ℕ) (e : slotAt (d .queue .count) i (d .queue .held) ≡ lowest heldId (readyBy t) (heldsOf (d .queue .count) (d .queue .held))) where
-      pub turn-rests : d .queue .count ≤ i → TurnPromise d (record { desk = d; turn = Rests })
-      turn-rests l = record { taken = (lowest-is ∙ ap (Option·map heldMark) (slot-missed (d .queue .count) i (d .queue .held) _ e l), refl); midway = m }
+      pub next-none : d .queue .count ≤ i → lowest markId (ready ((stateOf d) .executed)) ((stateOf d) .waiting) ≡ none
+      next-none l = lowest-is ∙ ap (Option·map heldMark) (slot-missed (d .queue .count) i (d .queue .held) _ e l)
 
       module _ (l : i < d .queue .count) (h : Held) (eh : h ≡ getD (d .queue .held) i noHeld) where
-        chosen : lowest markId (ready ((stateOf d) .executed)) ((stateOf d) .waiting) ≡ some (heldMark h)
-        chosen = lowest-is ∙ ap (Option·map heldMark) (slot-found (d .queue .count) i (d .queue .held) _ e l ∙ ap some (sym eh))
+        pub next-some : lowest markId (ready ((stateOf d) .executed)) ((stateOf d) .waiting) ≡ some (heldMark h)
+        next-some = lowest-is ∙ ap (Option·map heldMark) (slot-found (d .queue .count) i (d .queue .held) _ e l ∙ ap some (sym eh))
 
-        pub chosen-fit : Fit desks (heldMark h)
-        chosen-fit = subst (λ (x : Held). Fit desks (heldMark x)) (sym eh) (helds-at (Fit desks) (d .queue .count) (d .queue .held) (m .mid .waiting) i l)
+        pub next-ready : T (ready ((stateOf d) .executed) (heldMark h))
+        next-ready = (subst (Picked (Fit desks) (ready ((stateOf d) .executed))) next-some (lowest-picked (Fit desks) (ready ((stateOf d) .executed)) ((stateOf d) .waiting) (m .mid .waiting))) .1
 
-        pub chosen-ready : T (ready ((stateOf d) .executed) (heldMark h))
-        chosen-ready = (subst (Picked (Fit desks) (ready ((stateOf d) .executed))) chosen (lowest-picked (Fit desks) (ready ((stateOf d) .executed)) ((stateOf d) .waiting) (m .mid .waiting))) .1
+-- None waits, so none is ready.
+pub next-empty : (d : Desk) → d .queue .count ≡ 0 → lowest markId (ready ((stateOf d) .executed)) ((stateOf d) .waiting) ≡ none
+unfolding heldsOf
+next-empty d e = ap (λ (k : ℕ). lowest markId (ready ((stateOf d) .executed)) (map heldMark (heldsOf k (d .queue .held)))) e
 
-        module _ (q : Queue) (qs : Queued q) (eq : heldsOf (q .count) (q .held) ≡ without heldId (heldId h) (heldsOf (d .queue .count) (d .queue .held))) where
-          pub unused-queue : Unused (withQueue d q)
-          unused-queue = let u = m .unused in record { desks = u .desks; numbers = u .numbers; boxes = u .boxes; stamps = u .stamps; queue = qs }
+-- The promise by what was found.
+module _ (d : Desk) (n : Next) where
+  pub promise-none : lowest markId (ready ((stateOf d) .executed)) ((stateOf d) .waiting) ≡ none → Queued (d .queue) → n .found ≡ false → n .queue ≡ d .queue → NextPromise d n
+  promise-none e q f g = record {
+    none-ready = λ x. e;
+    as-found = λ x. g;
+    chosen = λ x. let z : _≡_ {A = ℕ} 0 1 = cc in absurd (omega arith);
+    judged = λ x. let z : _≡_ {A = ℕ} 0 1 = cc in absurd (omega arith);
+    others = λ x. let z : _≡_ {A = ℕ} 0 1 = cc in absurd (omega arith);
+    queued = subst Queued (sym g) q;
+  }
 
-          others : map heldMark (heldsOf (q .count) (q .held)) ≡ without markId (heldId h) ((stateOf d) .waiting)
-          others = ap (map heldMark) eq ∙ sym (without-held (heldId h) (heldsOf (d .queue .count) (d .queue .held)))
-
-          pub turn-drops : falseStamp ((stateOf d) .executed) (heldMark h) ≡ true → TurnPromise d (record { desk = withQueue d q; turn = Drops })
-          turn-drops f =
-              let st : stateOf (withQueue d q) ≡ record { own = d .own; executed = (stateOf d) .executed; waiting = without markId (heldId h) ((stateOf d) .waiting) } = λ k. record { own = d .own; executed = (stateOf d) .executed; waiting = others k } in
-              record {
-                taken = record { w = heldMark h; chosen = chosen; judged = f; state = st; unused = unused-queue };
-                midway = record { mid = subst MidState (sym st) (mid-dropped (stateOf d) (heldMark h) (m .mid) chosen f); unused = unused-queue };
-              }
-
-          pub turn-executes : falseStamp ((stateOf d) .executed) (heldMark h) ≡ false → (r : Desk) → Executes (withQueue d q) h r → TurnPromise d (record { desk = r; turn = Executed })
-          turn-executes f r x =
-              let st : stateOf r ≡ record { own = d .own; executed = heldMark h ∷ (stateOf d) .executed; waiting = without markId (heldId h) ((stateOf d) .waiting) } = x .state ∙ (λ k. record { own = d .own; executed = heldMark h ∷ (stateOf d) .executed; waiting = others k }) in
-              record {
-                taken = record { w = heldMark h; chosen = chosen; judged = f; state = st; unused = x .unused };
-                midway = record { mid = subst MidState (sym st) (mid-executed (stateOf d) (heldMark h) (m .mid) chosen f); unused = x .unused };
-              }
+  pub promise-some : lowest markId (ready ((stateOf d) .executed)) ((stateOf d) .waiting) ≡ some (heldMark (n .held)) → falseStamp ((stateOf d) .executed) (heldMark (n .held)) ≡ n .drops
+      → heldsOf (n .queue .count) (n .queue .held) ≡ without heldId (heldId (n .held)) (heldsOf (d .queue .count) (d .queue .held)) → Queued (n .queue) → n .found ≡ true → NextPromise d n
+  promise-some e j o q f = record {
+    none-ready = λ x. let z : _≡_ {A = ℕ} 0 1 = cc in absurd (omega arith);
+    as-found = λ x. let z : _≡_ {A = ℕ} 0 1 = cc in absurd (omega arith);
+    chosen = λ x. e;
+    judged = λ x. j;
+    others = λ x. o;
+    queued = q;
+  }

@@ -9,7 +9,6 @@ use Rattle.frame.specs.Mark.{MarkId, desks, isDesk}
 use Rattle.frame.specs.declared.MarkBox.{MarkBox}
 use Rattle.causality.specs.declared.MarkId.{MarkId as CodeId}
 use Rattle.causality.specs.Marks.{All, find}
-use Rattle.causality.specs.State.{State}
 use Rattle.causality.specs.Meaning.{idOf, numbering, reception, relating}
 use Rattle.history.specs.Plain.{StepAnswer, ofMark, ofReceive, Unmade, look, plain, listsAt, relation}
 use Rattle.history.specs.Run.{Step, marking, handing, deskOf, fed, Written, writtenId, written, Run}

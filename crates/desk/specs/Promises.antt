@@ -1,19 +1,23 @@
 -- What each call promises: the desk after, the answer and every lent byte, as the definitions of causality have them.
 use mathlib.Core.Path.{_≡_}
-use mathlib.Core.List.{List}
+use mathlib.Core.List.{List, map}
 use Prim.Native.Nat.{ℕ}
 use lib.ListN.{length}
 use Rattle.frame.specs.Frame.{writing}
 use Rattle.frame.specs.Mark.{desks}
 use Rattle.frame.specs.declared.MarkBox.{MarkBox}
 use Rattle.causality.specs.declared.MarkId.{MarkId}
-use Rattle.causality.specs.Calls.{new, mark, receive, relate, frameAgainSize, frameAgainBytes}
-use Rattle.causality.specs.Meaning.{idOf, creation, numbering, reception, relating}
+use Rattle.causality.specs.Calls.{new, mark, receive, relate, apartCount, apartPairs, firstApart, frameAgainSize, frameAgainBytes}
+use Rattle.causality.specs.Meaning.{idOf, creation, numbering, reception, relating, counting, lowestGiven}
+use Rattle.queries.specs.Found.{ApartFound}
 use Rattle.desk.specs.declared.Desk.{Desk}
 use Rattle.desk.specs.declared.CreatedDesk.{CreatedDesk}
 use Rattle.desk.specs.declared.MarkedDesk.{MarkedDesk}
 use Rattle.desk.specs.declared.ReceivedDesk.{ReceivedDesk}
 use Rattle.desk.specs.declared.RelatedDesk.{RelatedDesk}
+use Rattle.desk.specs.declared.CountedDesk.{CountedDesk}
+use Rattle.desk.specs.declared.ListedDesk.{ListedDesk}
+use Rattle.desk.specs.declared.LowestDesk.{LowestDesk}
 use Rattle.desk.specs.declared.WrittenDesk.{WrittenDesk}
 use Rattle.desk.specs.StateOf.{stateOf, Kept}
 
@@ -36,6 +40,20 @@ pub record ReceivePromise (d : Desk) (s : List ℕ) (r : ReceivedDesk) : Type 0 
 pub record RelatePromise (d : Desk) (a b : MarkId) (r : RelatedDesk) : Type 0 where
   pub desk : r .desk ≡ d
   pub answer : relating (r .answer) ≡ relate (stateOf d) (idOf a) (idOf b)
+
+pub record ApartPromise (d : Desk) (a : MarkId) (out after : List MarkId) (r : CountedDesk) : Type 0 where
+  pub desk : r .desk ≡ d
+  pub answer : counting (r .answer) ≡ apartCount (stateOf d) (idOf a) (length out)
+  pub pairs : map idOf after ≡ apartPairs (stateOf d) (idOf a) (map idOf out)
+
+-- Apart with no reference: the list that fills the pairs.
+pub record ApartListPromise (d : Desk) (a : MarkId) (room : ℕ) (r : ListedDesk) : Type 0 where
+  pub desk : r .desk ≡ d
+  pub found : ApartFound (stateOf d) (idOf a) room (r .found)
+
+pub record FirstApartPromise (d : Desk) (a : MarkId) (e : ℕ) (r : LowestDesk) : Type 0 where
+  pub desk : r .desk ≡ d
+  pub answer : lowestGiven (r .answer) ≡ firstApart desks (stateOf d) (idOf a) e
 
 pub record FrameAgainPromise (d : Desk) (a : MarkId) (out after : List ℕ) (r : WrittenDesk) : Type 0 where
   pub desk : r .desk ≡ d

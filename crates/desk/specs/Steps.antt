@@ -1,8 +1,8 @@
 -- What the inner steps of the calls do to a desk, in the terms of causality.
 use mathlib.Core.Path.{_≡_}
 use mathlib.Core.Bool.{Bool, true, false, _&&_, _||_}
-use mathlib.Core.List.{List, [], _∷_, _++_}
-use mathlib.Core.Option.{Option, none, some}
+use mathlib.Core.List.{List, _++_}
+use mathlib.Core.Option.{none, some}
 use Prim.Native.Nat.{ℕ, _+_, _≤_}
 use lib.Dec.{eqb}
 use lib.ListN.{length}
@@ -11,22 +11,29 @@ use Rattle.frame.specs.Mark.{desks}
 use Rattle.frame.specs.declared.MarkBox.{MarkBox}
 use Rattle.causality.specs.Marks.{places, waitingPlaces, All, any, find, without, lowest, tally}
 use Rattle.causality.specs.State.{Mark, markId, State, ids, ready, falseStamp}
-use Rattle.causality.specs.Calls.{execute, full, unmade, sameBytes, frameOfMark, release, receiveMark, executing}
+use Rattle.causality.specs.Calls.{execute, full, unmade, sameBytes, frameOfMark, receiveMark, executing}
 use Rattle.causality.specs.Meaning.{reception}
 use Rattle.causality.proofs.Fit.{Fit}
 use Rattle.causality.proofs.Reach.{ReachState}
-use Rattle.rows.specs.View.{rowFn, width, sameCounts}
-use Rattle.waiting.specs.Queue.{heldMark}
+use Rattle.rows.specs.View.{rowFn, width}
+use Rattle.waiting.specs.Queue.{Queued, heldId, heldMark, heldsOf}
 use Rattle.waiting.specs.declared.Held.{Held}
+use Rattle.waiting.specs.declared.Waiting.{Waiting}
+use Rattle.desk.specs.declared.Arrival.{Arrival}
 use Rattle.desk.specs.declared.Desk.{Desk}
+use Rattle.desk.specs.declared.Next.{Next}
 use Rattle.desk.specs.declared.ReceivedDesk.{ReceivedDesk}
-use Rattle.desk.specs.declared.Released.{Released}
-use Rattle.desk.specs.declared.Turned.{Turned}
-use Rattle.desk.specs.declared.Turn.{Turn}
-use Rattle.desk.specs.declared.Turn.the-variants.{Rests, Executes as Executed, Drops}
 use Rattle.desk.specs.declared.Verdict.{Verdict}
 use Rattle.desk.specs.declared.Verdict.the-variants.{Refused, Known, Waits, Runs}
 use Rattle.desk.specs.StateOf.{stateOf, Unused}
+
+-- The desk of lent arrays.
+abbrev pub deskOf : ℕ → ℕ → List ℕ → List ℕ → List ℕ → List ℕ → Waiting → Desk
+deskOf own count ds ns bs ss q = record { own = own; count = count; desks = ds; numbers = ns; boxes = bs; stamps = ss; queue = q }
+
+-- The desk with other waiting marks.
+abbrev pub withQueue : Desk → Waiting → Desk
+withQueue d q = record { own = d .own; count = d .count; desks = d .desks; numbers = d .numbers; boxes = d .boxes; stamps = d .stamps; queue = q }
 
 -- The mark held takes the next place.
 pub record Executes (d : Desk) (h : Held) (r : Desk) : Type 0 where
@@ -88,29 +95,14 @@ pub record Midway (d : Desk) : Type 0 where
   pub mid : MidState (stateOf d)
   pub unused : Unused d
 
--- One turn of the release, from desk d to desk r: nothing is ready, or the ready waiting mark of lowest desk is dropped or executed.
-pub record Taken (d r : Desk) (stamp : Bool) (executed : Mark → List Mark) : Type 0 where
-  pub w : Mark
-  pub chosen : lowest markId (ready ((stateOf d) .executed)) ((stateOf d) .waiting) ≡ some w
-  pub judged : falseStamp ((stateOf d) .executed) w ≡ stamp
-  pub state : stateOf r ≡ record { own = d .own; executed = executed w; waiting = without markId (w .id) ((stateOf d) .waiting) }
-  pub unused : Unused r
-
-abbrev pub TurnTaken : Desk → Desk → Turn → Type 0
-TurnTaken d r Rests = (lowest markId (ready ((stateOf d) .executed)) ((stateOf d) .waiting) ≡ none) × (r ≡ d)
-TurnTaken d r Drops = Taken d r true (λ w. (stateOf d) .executed)
-TurnTaken d r Executed = Taken d r false (λ w. w ∷ (stateOf d) .executed)
-
-pub record TurnPromise (d : Desk) (r : Turned) : Type 0 where
-  pub taken : TurnTaken d (r .desk) (r .turn)
-  pub midway : Midway (r .desk)
-
--- The whole release, after an execution.
-pub record ReleasePromise (d : Desk) (r : Released) : Type 0 where
-  pub own : (r .desk) .own ≡ d .own
-  pub done : release (length ((stateOf d) .waiting)) ((stateOf d) .executed) ((stateOf d) .waiting) 1 0
-      ≡ record { executed = (stateOf (r .desk)) .executed; waiting = (stateOf (r .desk)) .waiting; k = r .executed; f = r .dropped }
-  pub unused : Unused (r .desk)
+-- What the release does next: nothing is ready, or the ready waiting mark of lowest desk is dropped where its stamp is false, and else executed.
+pub record NextPromise (d : Desk) (n : Next) : Type 0 where
+  pub none-ready : n .found ≡ false → lowest markId (ready ((stateOf d) .executed)) ((stateOf d) .waiting) ≡ none
+  pub as-found : n .found ≡ false → n .queue ≡ d .queue
+  pub chosen : n .found ≡ true → lowest markId (ready ((stateOf d) .executed)) ((stateOf d) .waiting) ≡ some (heldMark (n .held))
+  pub judged : n .found ≡ true → falseStamp ((stateOf d) .executed) (heldMark (n .held)) ≡ n .drops
+  pub others : n .found ≡ true → heldsOf (n .queue .count) (n .queue .held) ≡ without heldId (heldId (n .held)) (heldsOf (d .queue .count) (d .queue .held))
+  pub queued : Queued (n .queue)
 
 -- Receive of a mark that its frame gave.
 pub record ReceiveMarkPromise (d : Desk) (h : Held) (r : ReceivedDesk) : Type 0 where
@@ -130,3 +122,16 @@ pub record ExecutingPromise (d : Desk) (h : Held) (r : ReceivedDesk) : Type 0 wh
   pub state : stateOf (r .desk) ≡ (executing (stateOf d) (heldMark h)) .state
   pub answer : reception (r .answer) ≡ (executing (stateOf d) (heldMark h)) .answer
   pub unused : Unused (r .desk)
+
+-- A mark is executed first; the queue, in which it is not, is as found.
+pub record Starts (d : Desk) (n : Next) : Type 0 where
+  pub queue : n .queue ≡ d .queue
+  pub drops : n .drops ≡ false
+  pub fit : Fit desks (heldMark (n .held))
+  pub executable : Executable d (n .held)
+
+-- What comes of a call that makes the promise P: it is kept at once, or by the execution of the first mark.
+pub record Arrives (d : Desk) (P : ReceivedDesk → Type 0) (a : Arrival) : Type 0 where
+  pub rests : a .next .found ≡ false → P (record { desk = withQueue d (a .next .queue); answer = a .answer })
+  pub starts : a .next .found ≡ true → Starts d (a .next)
+  pub runs : a .next .found ≡ true → (r : ReceivedDesk) → ExecutingPromise d (a .next .held) r → P r

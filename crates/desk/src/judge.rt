@@ -2,30 +2,30 @@
 ghost use mathlib.Core.Path.{_≡_};
 ghost use mathlib.Core.Bool.{_&&_, _||_};
 ghost use mathlib.Core.List.{List};
-ghost use Prim.Native.Nat.{ℕ, _-_, _≤_, _<_};
+ghost use Prim.Native.Nat.{ℕ, _+_, _-_, _≤_, _<_};
 ghost use lib.Dec.{T, eqb, ltb};
 ghost use lib.ListN.{getD};
-ghost use Rattle.frame.specs.Mark.{desks};
 ghost use Rattle.frame.specs.declared.MarkBox.{MarkBox};
 ghost use Rattle.causality.specs.Marks.{places};
 ghost use Rattle.causality.specs.State.{ready, falseStamp};
 ghost use Rattle.causality.specs.Calls.{frameOfMark};
 ghost use Rattle.causality.proofs.Fit.{Fit};
 ghost use Rattle.causality.proofs.Reach.{Sound};
-ghost use Rattle.rows.specs.View.{width, rowFn, view, markAt, Named, sameCounts};
-ghost use Rattle.waiting.specs.Queue.{heldMark};
+ghost use Rattle.rows.specs.View.{width, rowFn, view, markAt, boxAt, Named, sameCounts};
+ghost use Rattle.waiting.specs.Queue.{heldMark, Queued};
 ghost use Rattle.desk.specs.StateOf.{stateOf, Kept};
-ghost use Rattle.desk.specs.Steps.{sameBox, verdictOf, knownIf, admission, meeting, judgement, Tallies};
-use crate::Desk;
+ghost use Rattle.desk.specs.Steps.{deskOf, sameBox, verdictOf, knownIf, admission, meeting, judgement, Tallies};
 use crate::Verdict;
 use causality::Place;
 use frame::MarkBox;
 use frame::Number;
 use frame::Refusal;
+use rows::BOX;
 use rows::PLACES;
 use rows::WIDTH;
 use waiting::Held;
 use waiting::WAITING;
+use waiting::Waiting;
 
 fn same_box(a: MarkBox, b: MarkBox) -> bool
     ensures { λ r. ⌜ r ≡ sameBox a b ⌝ }
@@ -72,8 +72,22 @@ fn unmade(own: u8, tally: [u16; WIDTH], h: Held) -> bool
     made < row[at]
 }
 
-// The false-stamp test of a ready mark.
-pub fn is_false<'a>(
+// The marks whose standing the false-stamp test asks: those that the row names, and of the mark's own desk, where it names none, the previous one.
+fn asked(mut row: [u16; WIDTH], desk: u8, number: u16) -> [u16; WIDTH]
+    requires { ⌜ (1 ≤ desk) × (desk ≤ width) ⌝ }
+    ensures { λ r. ⌜ ((j : ℕ) → j < width → 0 < getD row j 0 → getD r j 0 ≡ getD row j 0) × (getD row (desk - 1) 0 ≡ 0 → 1 < number → getD r (desk - 1) 0 ≡ number - 1) ⌝ }
+{
+    let d = desk as usize - 1;
+    if row[d] == 0 {
+        if 1 < number {
+            row[d] = number - 1;
+        }
+    }
+    row
+}
+
+// The false-stamp test of a ready mark. The trace stops at the oldest of the marks whose standing matters.
+pub(crate) fn is_false<'a>(
     desks: &'a [u8; PLACES],
     numbers: &'a [u16; PLACES],
     stamps: &'a [u16; PLACES * WIDTH],
@@ -81,83 +95,118 @@ pub fn is_false<'a>(
     h: Held,
 ) -> bool
     requires { ⌜ (count ≤ places) × Named width count (now desks) × (1 ≤ h .desk) × (h .desk ≤ width) ⌝ }
-    ensures { λ r. ⌜ ((bs : List MarkBox) → Sound (view width count (now (desks .entry)) (now (numbers .entry)) bs (now (stamps .entry))) → T (ready (view width count (now (desks .entry)) (now (numbers .entry)) bs (now (stamps .entry))) (heldMark h)) → r ≡ falseStamp (view width count (now (desks .entry)) (now (numbers .entry)) bs (now (stamps .entry))) (heldMark h)) ⌝ }
+    ensures { λ r. ⌜ ((bs : ℕ → MarkBox) → Sound (view width count (now (desks .entry)) (now (numbers .entry)) bs (now (stamps .entry))) → T (ready (view width count (now (desks .entry)) (now (numbers .entry)) bs (now (stamps .entry))) (heldMark h)) → r ≡ falseStamp (view width count (now (desks .entry)) (now (numbers .entry)) bs (now (stamps .entry))) (heldMark h)) ⌝ }
 {
     let row = h.row;
     let n = h.number;
-    let below = rows::trace(desks, numbers, stamps, row, [0; WIDTH], Place(count));
+    let to = rows::oldest(desks, numbers, asked(row, h.desk, n.0), count);
+    let below = rows::trace(
+        desks,
+        numbers,
+        stamps,
+        row,
+        [0; WIDTH],
+        Place(count),
+        Place(to),
+    );
     rows::false_stamp(row, below, h.desk, n.0)
 }
 
-impl Desk {
-    // The mark at a place.
-    pub fn mark_at(self, p: usize) -> Held
-        requires { ⌜ p < places ⌝ }
-        ensures { λ r. ⌜ heldMark r ≡ markAt width (self .desks) (self .numbers) (self .boxes) (self .stamps) p ⌝ }
-    {
-        let extent = self.boxes[p];
-        let row = rows::row_at(&self.stamps, p);
-        Held {
-            desk: self.desks[p],
-            number: Number(self.numbers[p]),
-            extent: extent,
-            row: row,
-        }
+// The mark at a place.
+pub(crate) fn mark_at<'a>(
+    desks: &'a [u8; PLACES],
+    numbers: &'a [u16; PLACES],
+    boxes: &'a [u32; PLACES * BOX],
+    stamps: &'a [u16; PLACES * WIDTH],
+    p: usize,
+) -> Held
+    requires { ⌜ p < places ⌝ }
+    ensures { λ r. ⌜ heldMark r ≡ markAt width (now (desks .entry)) (now (numbers .entry)) (boxAt (now (boxes .entry))) (now (stamps .entry)) p ⌝ }
+{
+    let extent = rows::box_at(boxes, p);
+    let row = rows::row_at(stamps, p);
+    Held {
+        desk: desks[p],
+        number: Number(numbers[p]),
+        extent: extent,
+        row: row,
     }
+}
 
-    // 9, 10, 11, by the tally.
-    fn admit(self, tally: [u16; WIDTH], h: Held) -> Verdict
-        requires { ⌜ Kept self × Fit desks (heldMark h) × Tallies self tally ⌝ }
-        ensures { λ r. ⌜ verdictOf r ≡ admission (stateOf self) (heldMark h) ⌝ }
-    {
-        let count = self.count;
-        let q = self.queue;
-        let n = h.number;
-        let row = h.row;
-        if count + q.count == PLACES {
-            return Verdict::Refused(Refusal::DeskFull);
-        }
-        if rows::ready(tally, h.desk, n.0, row) {
-            if is_false(&self.desks, &self.numbers, &self.stamps, count, h) {
-                return Verdict::Refused(Refusal::FalseStamp);
-            }
-            return Verdict::Runs;
-        }
-        if q.count == WAITING {
-            return Verdict::Refused(Refusal::WaitingFull);
-        }
-        Verdict::Waits
+// 9, 10, 11, by the tally.
+fn admit<'a>(
+    desks: &'a [u8; PLACES],
+    numbers: &'a [u16; PLACES],
+    stamps: &'a [u16; PLACES * WIDTH],
+    count: usize,
+    queue: Waiting,
+    tally: [u16; WIDTH],
+    h: Held,
+) -> Verdict
+    requires { ⌜ (count + queue .count ≤ places) × Named width count (now desks) × Fit width (heldMark h) ⌝ }
+    ensures { λ r. ⌜ ((own : ℕ) (bs : List ℕ) → Kept (deskOf own count (now (desks .entry)) (now (numbers .entry)) bs (now (stamps .entry)) queue) → Tallies (deskOf own count (now (desks .entry)) (now (numbers .entry)) bs (now (stamps .entry)) queue) tally → verdictOf r ≡ admission (stateOf (deskOf own count (now (desks .entry)) (now (numbers .entry)) bs (now (stamps .entry)) queue)) (heldMark h)) ⌝ }
+{
+    let n = h.number;
+    let row = h.row;
+    if count + queue.count == PLACES {
+        return Verdict::Refused(Refusal::DeskFull);
     }
+    if rows::ready(tally, h.desk, n.0, row) {
+        if is_false(desks, numbers, stamps, count, h) {
+            return Verdict::Refused(Refusal::FalseStamp);
+        }
+        return Verdict::Runs;
+    }
+    if queue.count == WAITING {
+        return Verdict::Refused(Refusal::WaitingFull);
+    }
+    Verdict::Waits
+}
 
-    // Known or 8 of a mark that is executed or waiting; else the above.
-    fn meet(self, tally: [u16; WIDTH], h: Held) -> Verdict
-        requires { ⌜ Kept self × Fit desks (heldMark h) × Tallies self tally ⌝ }
-        ensures { λ r. ⌜ verdictOf r ≡ meeting (stateOf self) (heldMark h) (frameOfMark desks (heldMark h)) ⌝ }
-    {
-        let count = self.count;
-        let n = h.number;
-        let p = rows::find(&self.desks, &self.numbers, count, h.desk, n.0);
-        if p < count {
-            return known(self.mark_at(p), h);
-        }
-        let q = self.queue;
-        let i = q.find(h.desk, n.0);
-        if i < q.count {
-            return known(q.at(i), h);
-        }
-        self.admit(tally, h)
+// Known or 8 of a mark that is executed or waiting; else the above.
+fn meet<'a>(
+    desks: &'a [u8; PLACES],
+    numbers: &'a [u16; PLACES],
+    boxes: &'a [u32; PLACES * BOX],
+    stamps: &'a [u16; PLACES * WIDTH],
+    count: usize,
+    queue: Waiting,
+    tally: [u16; WIDTH],
+    h: Held,
+) -> Verdict
+    requires { ⌜ (count + queue .count ≤ places) × Named width count (now desks) × Queued queue × Fit width (heldMark h) ⌝ }
+    ensures { λ r. ⌜ ((own : ℕ) → Kept (deskOf own count (now (desks .entry)) (now (numbers .entry)) (now (boxes .entry)) (now (stamps .entry)) queue) → Tallies (deskOf own count (now (desks .entry)) (now (numbers .entry)) (now (boxes .entry)) (now (stamps .entry)) queue) tally → verdictOf r ≡ meeting (stateOf (deskOf own count (now (desks .entry)) (now (numbers .entry)) (now (boxes .entry)) (now (stamps .entry)) queue)) (heldMark h) (frameOfMark width (heldMark h))) ⌝ }
+{
+    let n = h.number;
+    let p = rows::find(desks, numbers, count, h.desk, n.0);
+    if p < count {
+        return known(mark_at(desks, numbers, boxes, stamps, p), h);
     }
+    let i = queue.find(h.desk, n.0);
+    if i < queue.count {
+        return known(queue.at(i), h);
+    }
+    admit(desks, numbers, stamps, count, queue, tally, h)
+}
 
-    pub fn judge(self, h: Held) -> Verdict
-        requires { ⌜ Kept self × Fit desks (heldMark h) ⌝ }
-        ensures { λ r. ⌜ verdictOf r ≡ judgement (stateOf self) (heldMark h) (frameOfMark desks (heldMark h)) ⌝ }
-    {
-        let t = rows::tally(&self.desks, self.count);
-        if unmade(self.own, t, h) {
-            return Verdict::Refused(Refusal::NotYetMade);
-        }
-        self.meet(t, h)
+pub(crate) fn judge<'a>(
+    own: u8,
+    desks: &'a [u8; PLACES],
+    numbers: &'a [u16; PLACES],
+    boxes: &'a [u32; PLACES * BOX],
+    stamps: &'a [u16; PLACES * WIDTH],
+    count: usize,
+    queue: Waiting,
+    h: Held,
+) -> Verdict
+    requires { ⌜ Kept (deskOf own count (now desks) (now numbers) (now boxes) (now stamps) queue) × Fit width (heldMark h) ⌝ }
+    ensures { λ r. ⌜ verdictOf r ≡ judgement (stateOf (deskOf own count (now (desks .entry)) (now (numbers .entry)) (now (boxes .entry)) (now (stamps .entry)) queue)) (heldMark h) (frameOfMark width (heldMark h)) ⌝ }
+{
+    let t = rows::tally(desks, count);
+    if unmade(own, t, h) {
+        return Verdict::Refused(Refusal::NotYetMade);
     }
+    meet(desks, numbers, boxes, stamps, count, queue, t, h)
 }
 
 // Of a mark of the same name: Known, or 8.

@@ -1,13 +1,18 @@
 // Mark: a box becomes this desk's next mark, and its frame is written out.
 ghost use mathlib.Core.Path.{_≡_};
-ghost use mathlib.Core.Bool.{false};
+ghost use mathlib.Core.List.{List};
+ghost use Prim.Native.Nat.{ℕ, _≤_};
 ghost use lib.ListN.{length};
 ghost use Rattle.frame.specs.Frame.{writing, overIf};
 ghost use Rattle.frame.specs.Mark.{desks};
-ghost use Rattle.causality.specs.Calls.{frameOfMark, sizeOfMark, newMark, full};
+ghost use Rattle.causality.specs.Calls.{frameOfMark, sizeOfMark, newMark};
+ghost use Rattle.causality.specs.Marks.{places};
+ghost use Rattle.rows.specs.View.{width, Named};
+ghost use Rattle.waiting.specs.declared.Waiting.{Waiting};
 ghost use Rattle.waiting.specs.Queue.{heldMark};
 ghost use Rattle.desk.specs.Promises.{MarkPromise};
 ghost use Rattle.desk.specs.StateOf.{stateOf, Kept};
+ghost use Rattle.desk.specs.Steps.{deskOf};
 use crate::Desk;
 use crate::MarkedDesk;
 use causality::Marked;
@@ -17,10 +22,11 @@ use frame::Number;
 use frame::Refusal;
 use frame::Writing;
 use rows::PLACES;
+use rows::WIDTH;
 use waiting::Held;
 
 // The frame of a mark, as by the writer.
-pub fn write_mark(h: Held, out: &mut [u8]) -> Writing
+pub(crate) fn write_mark(h: Held, out: &mut [u8]) -> Writing
     ensures answer { λ r. ⌜ writing r ≡ sizeOfMark desks (heldMark h) (length (now (out .entry))) ⌝ }
     ensures bytes { λ _. ⌜ now (out .exit) ≡ overIf (sizeOfMark desks (heldMark h) (length (now (out .entry)))) (frameOfMark desks (heldMark h)) (now (out .entry)) ⌝ }
 {
@@ -41,28 +47,34 @@ pub fn write_mark(h: Held, out: &mut [u8]) -> Writing
     )
 }
 
-impl Desk {
-    // The mark that a box becomes here.
-    fn next_mark(self, extent: MarkBox) -> Held
-        requires { ⌜ Kept self × (full (stateOf self) ≡ false) ⌝ }
-        ensures { λ r. ⌜ heldMark r ≡ newMark (stateOf self) extent ⌝ }
-    {
-        let count = self.count;
-        let t = rows::tally(&self.desks, count);
-        let row = rows::heads(&self.desks, &self.stamps, count);
-        let at = self.own as usize - 1;
-        Held {
-            desk: self.own,
-            number: Number(t[at] + 1),
-            extent: extent,
-            row: row,
-        }
+// The mark that a box becomes at desk `own`.
+fn next_mark<'a>(
+    own: u8,
+    desks: &'a [u8; PLACES],
+    stamps: &'a [u16; PLACES * WIDTH],
+    count: usize,
+    extent: MarkBox,
+) -> Held
+    requires { ⌜ (1 ≤ own) × (own ≤ width) × (count ≤ places) × Named width count (now desks) ⌝ }
+    ensures { λ r. ⌜ ((ns bs : List ℕ) (q : Waiting) → Kept (deskOf own count (now (desks .entry)) ns bs (now (stamps .entry)) q) → heldMark r ≡ newMark (stateOf (deskOf own count (now (desks .entry)) ns bs (now (stamps .entry)) q)) extent) ⌝ }
+{
+    let t = rows::tally(desks, count);
+    let row = rows::heads(desks, stamps, count);
+    let at = own as usize - 1;
+    Held {
+        desk: own,
+        number: Number(t[at] + 1),
+        extent: extent,
+        row: row,
     }
+}
 
-    pub fn mark(self, extent: MarkBox, out: &mut [u8]) -> MarkedDesk
+impl Desk {
+    pub fn mark(mut self, extent: MarkBox, out: &mut [u8]) -> MarkedDesk
         requires { ⌜ Kept self ⌝ }
         ensures { λ r. ⌜ MarkPromise self extent (now (out .entry)) (now (out .exit)) r ⌝ }
     {
+        let at = self.count;
         let q = self.queue;
         if !frame::conditions::box_rule(extent) {
             return MarkedDesk {
@@ -70,25 +82,32 @@ impl Desk {
                 answer: Marked::Refused(Refusal::FieldRange),
             };
         }
-        if self.count + q.count == PLACES {
+        if at + q.count == PLACES {
             return MarkedDesk {
                 desk: self,
                 answer: Marked::Refused(Refusal::DeskFull),
             };
         }
-        let h = self.next_mark(extent);
-        match write_mark(h, out) {
-            Writing::Refused(refusal) => MarkedDesk {
-                desk: self,
-                answer: Marked::Refused(refusal),
-            },
-            Writing::Size(size) => {
-                let number = h.number;
-                MarkedDesk {
-                    desk: self.execute(h),
-                    answer: Marked::Made(number, size),
-                }
+        let h = next_mark(self.own, &self.desks, &self.stamps, at, extent);
+        let size = match write_mark(h, out) {
+            Writing::Refused(refusal) => {
+                return MarkedDesk {
+                    desk: self,
+                    answer: Marked::Refused(refusal),
+                };
             }
+            Writing::Size(size) => size,
+        };
+        let number = h.number;
+        let row = h.row;
+        rows::put_row(&mut self.stamps, at, row);
+        rows::put_box(&mut self.boxes, at, extent);
+        self.desks[at] = h.desk;
+        self.numbers[at] = number.0;
+        self.count = at + 1;
+        MarkedDesk {
+            desk: self,
+            answer: Marked::Made(number, size),
         }
     }
 }

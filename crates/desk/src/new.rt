@@ -1,41 +1,26 @@
 // New: an empty desk.
 ghost use mathlib.Core.Path.{_≡_};
-ghost use lib.ListN.{replicate};
 ghost use Rattle.causality.specs.Calls.{empty};
-ghost use Rattle.causality.specs.Marks.{places};
-ghost use Rattle.rows.specs.View.{noBox};
 ghost use Rattle.desk.specs.Promises.{NewPromise};
 ghost use Rattle.desk.specs.StateOf.{stateOf, Unused};
 use crate::CreatedDesk;
 use crate::Desk;
 use causality::Created;
-use frame::MarkBox;
 use frame::Refusal;
+use rows::BOX;
 use rows::PLACES;
 use rows::WIDTH;
-
-fn no_boxes() -> [MarkBox; PLACES]
-    ensures { λ r. ⌜ r ≡ replicate places noBox ⌝ }
-{
-    [MarkBox {
-        start: 0,
-        end: 0,
-        low: 0,
-        high: 0,
-    }; PLACES]
-}
 
 fn blank(own: u8) -> Desk
     ensures { λ r. ⌜ (stateOf r ≡ empty own) × Unused r ⌝ }
 {
-    let boxes = no_boxes();
     let queue = waiting::empty();
     Desk {
         own: own,
         count: 0,
         desks: [0; PLACES],
         numbers: [0; PLACES],
-        boxes: boxes,
+        boxes: [0; PLACES * BOX],
         stamps: [0; PLACES * WIDTH],
         queue: queue,
     }

@@ -1,76 +1,69 @@
-// Receive: a frame is executed, set waiting, known or refused.
-ghost use Rattle.frame.specs.Mark.{desks};
-ghost use Rattle.causality.proofs.Fit.{Fit};
-ghost use Rattle.waiting.specs.Queue.{heldMark};
+// Receive: a frame is executed, set waiting, known or refused; after an executed mark, waiting marks that have become ready are executed or dropped.
+ghost use mathlib.Core.Path.{_≡_};
+ghost use mathlib.Core.Bool.{false, true};
 ghost use Rattle.desk.specs.Promises.{ReceivePromise};
 ghost use Rattle.desk.specs.StateOf.{Kept};
-ghost use Rattle.desk.specs.Steps.{ReceiveMarkPromise, Executable, ExecutingPromise};
+use crate::Arrival;
 use crate::Desk;
 use crate::ReceivedDesk;
-use crate::Verdict;
+use crate::arrive::arrive;
+use crate::release::next_ready;
 use causality::Received;
-use frame::Reading;
-use waiting::Held;
+
+fn answer_of(a: Arrival, executed: u16, dropped: u16) -> Received
+    ensures { λ r. ⌜ (a .next .found ≡ false → r ≡ a .answer) × (a .next .found ≡ true → r ≡ Received.Executed executed dropped) ⌝ }
+{
+    let first = a.next;
+    if first.found {
+        return Received::Executed(executed, dropped);
+    }
+    a.answer
+}
 
 impl Desk {
-    pub fn receive(self, frame: &[u8]) -> ReceivedDesk
+    // The stores are done here, so that the desk is copied twice: in, and out.
+    pub fn receive(mut self, frame: &[u8]) -> ReceivedDesk
         requires { ⌜ Kept self ⌝ }
         ensures { λ r. ⌜ ReceivePromise self (now (frame .entry)) r ⌝ }
     {
-        match frame::reader::fields(frame) {
-            Reading::Refused(refusal) => ReceivedDesk {
-                desk: self,
-                answer: Received::Refused(refusal),
-            },
-            Reading::Fields(f) => {
-                let number = f.number;
-                let extent = f.extent;
-                let row = rows::row_of(frame::reader::entries(frame));
-                self.receive_mark(Held {
-                    desk: f.desk,
-                    number: number,
-                    extent: extent,
-                    row: row,
-                })
+        let q = self.queue;
+        let a = arrive(
+            frame,
+            self.own,
+            &self.desks,
+            &self.numbers,
+            &self.boxes,
+            &self.stamps,
+            self.count,
+            q,
+        );
+        let mut next = a.next;
+        let mut executed: u16 = 0;
+        let mut dropped: u16 = 0;
+        while next.found {
+            let at = self.count;
+            let h = next.held;
+            let number = h.number;
+            let row = h.row;
+            let extent = h.extent;
+            if next.drops {
+                dropped += 1;
+            } else {
+                rows::put_row(&mut self.stamps, at, row);
+                rows::put_box(&mut self.boxes, at, extent);
+                self.desks[at] = h.desk;
+                self.numbers[at] = number.0;
+                self.count = at + 1;
+                executed += 1;
             }
+            let rest = next.queue;
+            next = next_ready(&self.desks, &self.numbers, &self.stamps, self.count, rest);
         }
-    }
-
-    fn receive_mark(mut self, h: Held) -> ReceivedDesk
-        requires { ⌜ Kept self × Fit desks (heldMark h) ⌝ }
-        ensures { λ r. ⌜ ReceiveMarkPromise self h r ⌝ }
-    {
-        match self.judge(h) {
-            Verdict::Refused(refusal) => ReceivedDesk {
-                desk: self,
-                answer: Received::Refused(refusal),
-            },
-            Verdict::Known => ReceivedDesk {
-                desk: self,
-                answer: Received::Known,
-            },
-            Verdict::Waits => {
-                let q = self.queue;
-                let more = q.push(h);
-                self.queue = more;
-                ReceivedDesk {
-                    desk: self,
-                    answer: Received::Waiting,
-                }
-            }
-            Verdict::Runs => self.execute_mark(h),
-        }
-    }
-
-    fn execute_mark(self, h: Held) -> ReceivedDesk
-        requires { ⌜ Kept self × Fit desks (heldMark h) × Executable self h ⌝ }
-        ensures { λ r. ⌜ ExecutingPromise self h r ⌝ }
-    {
-        let r = self.execute(h).release();
-        let desk = r.desk;
+        let rest = next.queue;
+        self.queue = rest;
         ReceivedDesk {
-            desk: desk,
-            answer: Received::Executed(r.executed, r.dropped),
+            desk: self,
+            answer: answer_of(a, executed, dropped),
         }
     }
 }

@@ -1,75 +1,56 @@
-// The release: after an executed mark, waiting marks that have become ready are executed or dropped.
-ghost use Rattle.desk.specs.Steps.{Midway, TurnPromise, ReleasePromise};
-use crate::Desk;
-use crate::Released;
-use crate::Turn;
-use crate::Turned;
+// The release: which waiting mark is executed or dropped next.
+ghost use mathlib.Core.Path.{_≡_};
+ghost use mathlib.Core.Bool.{false};
+ghost use Prim.Native.Nat.{ℕ, _≤_};
+ghost use mathlib.Core.List.{List};
+ghost use Rattle.causality.specs.Marks.{places};
+ghost use Rattle.rows.specs.View.{width, Named};
+ghost use Rattle.waiting.specs.Queue.{Queued, HeldNamed};
+ghost use Rattle.desk.specs.Steps.{deskOf, Midway, NextPromise};
+use crate::Next;
 use crate::judge;
+use rows::PLACES;
+use rows::WIDTH;
+use waiting::Waiting;
 
-impl Desk {
-    // The ready waiting mark of lowest desk, if any, is dropped where its stamp is false, and else executed.
-    fn turn(mut self) -> Turned
-        requires { ⌜ Midway self ⌝ }
-        ensures { λ r. ⌜ TurnPromise self r ⌝ }
-    {
-        let count = self.count;
-        let q = self.queue;
-        let t = rows::tally(&self.desks, count);
-        let i = q.lowest_ready(t);
-        if q.count <= i {
-            return Turned {
-                desk: self,
-                turn: Turn::Rests,
-            };
-        }
-        let h = q.at(i);
-        let n = h.number;
-        let dropped = judge::is_false(&self.desks, &self.numbers, &self.stamps, count, h);
-        let others = q.without(h.desk, n.0);
-        self.queue = others;
-        if dropped {
-            return Turned {
-                desk: self,
-                turn: Turn::Drops,
-            };
-        }
-        Turned {
-            desk: self.execute(h),
-            turn: Turn::Executes,
-        }
+fn rests(queue: Waiting) -> Next
+    ensures { λ r. ⌜ (r .found ≡ false) × (r .queue ≡ queue) ⌝ }
+{
+    let none = waiting::no_held();
+    Next {
+        found: false,
+        drops: false,
+        held: none,
+        queue: queue,
     }
+}
 
-    pub fn release(self) -> Released
-        requires { ⌜ Midway self ⌝ }
-        ensures { λ r. ⌜ ReleasePromise self r ⌝ }
-    {
-        let q = self.queue;
-        let mut turns = q.count;
-        let mut desk = self;
-        let mut executed: u16 = 1;
-        let mut dropped: u16 = 0;
-        while 0 < turns {
-            let t = desk.turn();
-            let next = t.desk;
-            let turn = t.turn;
-            desk = next;
-            turns -= 1;
-            match turn {
-                Turn::Rests => {
-                    turns = 0;
-                }
-                Turn::Executes => {
-                    executed += 1;
-                }
-                Turn::Drops => {
-                    dropped += 1;
-                }
-            }
-        }
-        Released {
-            desk: desk,
-            executed: executed,
-            dropped: dropped,
-        }
+pub(crate) fn next_ready<'a>(
+    desks: &'a [u8; PLACES],
+    numbers: &'a [u16; PLACES],
+    stamps: &'a [u16; PLACES * WIDTH],
+    count: usize,
+    queue: Waiting,
+) -> Next
+    requires { ⌜ (count ≤ places) × Named width count (now desks) × Queued queue × HeldNamed (queue .count) (queue .held) ⌝ }
+    ensures { λ r. ⌜ ((own : ℕ) (bs : List ℕ) → Midway (deskOf own count (now (desks .entry)) (now (numbers .entry)) bs (now (stamps .entry)) queue) → NextPromise (deskOf own count (now (desks .entry)) (now (numbers .entry)) bs (now (stamps .entry)) queue) r) ⌝ }
+{
+    if queue.count == 0 {
+        return rests(queue);
+    }
+    let t = rows::tally(desks, count);
+    let i = queue.lowest_ready(t);
+    if queue.count <= i {
+        return rests(queue);
+    }
+    let h = queue.at(i);
+    let n = h.number;
+    let drops = judge::is_false(desks, numbers, stamps, count, h);
+    let others = queue.without(h.desk, n.0);
+    Next {
+        found: true,
+        drops: drops,
+        held: h,
+        queue: others,
     }
 }

@@ -8,12 +8,13 @@ use frame::MarkBox;
 use frame::Number;
 
 // New.
-pub fn new(label: &[u8], own: u8) -> Desk
+pub fn new(own: u8) -> Desk
     ensures { λ r. ⌜ Kept r ⌝ }
 {
     let r = Desk::new(own);
     let answer = r.answer;
-    show::created(label, answer);
+    show::number(b"New ", own as u64);
+    show::created(answer);
     r.desk
 }
 
@@ -24,7 +25,8 @@ pub fn mark(label: &[u8], desk: Desk, extent: MarkBox, out: &mut [u8]) -> Desk
 {
     let r = desk.mark(extent, out);
     let answer = r.answer;
-    show::marked(label, answer, out);
+    show::words(label);
+    show::marked(answer, out);
     r.desk
 }
 
@@ -39,14 +41,15 @@ pub fn mark_first(label: &[u8], desk: Desk, out: &mut [u8], lent: usize) -> Desk
     desk
 }
 
-// Mark into a slot.
-pub fn mark_in(label: &[u8], desk: Desk, frames: &mut [u8], slot: u8) -> Desk
+// Mark d.n into a slot.
+pub fn mark_in(desk: Desk, d: u8, n: u16, frames: &mut [u8], slot: u8) -> Desk
     requires { ⌜ Kept desk ⌝ }
     ensures { λ r. ⌜ Kept r ⌝ }
 {
     let start = frames::start_of(slot);
     if start <= frames.len() {
-        return mark(label, desk, frames::extent(), &mut frames[start..]);
+        show::mark(b"", d, n);
+        return mark(b"", desk, frames::extent(), &mut frames[start..]);
     }
     desk
 }
@@ -58,7 +61,8 @@ pub fn receive(label: &[u8], desk: Desk, frame: &[u8]) -> Desk
 {
     let r = desk.receive(frame);
     let answer = r.answer;
-    show::received(label, answer);
+    show::words(label);
+    show::received(answer);
     r.desk
 }
 
@@ -70,20 +74,84 @@ pub fn receive_from(label: &[u8], desk: Desk, frames: &[u8], slot: u8) -> Desk
     receive(label, desk, frames::at(frames, slot))
 }
 
+// The same, where the line names the desk and the mark.
+pub fn hand_over(own: u8, desk: Desk, frames: &[u8], slot: u8) -> Desk
+    requires { ⌜ Kept desk ⌝ }
+    ensures { λ r. ⌜ Kept r ⌝ }
+{
+    show::number(b"desk ", own as u64);
+    show::name(b" receives ", frames::at(frames, slot));
+    receive_from(b"", desk, frames, slot)
+}
+
+fn mark_id(d: u8, n: u16) -> MarkId {
+    MarkId {
+        desk: d,
+        number: Number(n),
+    }
+}
+
 // Relate a.n and b.m.
-pub fn relate(label: &[u8], desk: Desk, a: u8, n: u16, b: u8, m: u16)
+pub fn relate(desk: Desk, a: u8, n: u16, b: u8, m: u16)
     requires { ⌜ Kept desk ⌝ }
 {
-    let r = desk.relate(
-        MarkId {
-            desk: a,
-            number: Number(n),
-        },
-        MarkId {
-            desk: b,
-            number: Number(m),
-        },
-    );
+    let r = desk.relate(mark_id(a, n), mark_id(b, m));
     let answer = r.answer;
-    show::related(label, answer);
+    show::mark(b"Relate ", a, n);
+    show::mark(b", ", b, m);
+    show::related(answer);
+}
+
+// Apart of d.n, with room for so many marks.
+pub fn apart(desk: Desk, d: u8, n: u16, room: usize)
+    requires { ⌜ Kept desk ⌝ }
+{
+    let r = desk.apart_list(mark_id(d, n), room);
+    let found = r.found;
+    let list = found.list;
+    let answer = found.answer;
+    show::mark(b"Apart of ", d, n);
+    show::number(b", room for ", room as u64);
+    show::counted(answer, list);
+}
+
+// First apart of d.n for a desk.
+pub fn first_apart(desk: Desk, d: u8, n: u16, of: u8)
+    requires { ⌜ Kept desk ⌝ }
+{
+    let r = desk.first_apart(mark_id(d, n), of);
+    let answer = r.answer;
+    show::mark(b"First apart of ", d, n);
+    show::number(b", desk ", of as u64);
+    show::lowest(answer);
+}
+
+// Frame again of d.n.
+pub fn frame_again(desk: Desk, d: u8, n: u16, out: &mut [u8])
+    requires { ⌜ Kept desk ⌝ }
+{
+    let r = desk.frame_again(mark_id(d, n), out);
+    let answer = r.answer;
+    show::mark(b"Frame again of ", d, n);
+    show::number(b", bytes lent ", out.len() as u64);
+    show::written(answer);
+}
+
+// Frame again of d.n into the first of some bytes.
+pub fn frame_again_first(desk: Desk, d: u8, n: u16, out: &mut [u8], lent: usize)
+    requires { ⌜ Kept desk ⌝ }
+{
+    if lent <= out.len() {
+        frame_again(desk, d, n, &mut out[0..lent]);
+    }
+}
+
+// Frame again of d.n into a slot.
+pub fn frame_again_in(desk: Desk, d: u8, n: u16, frames: &mut [u8], slot: u8)
+    requires { ⌜ Kept desk ⌝ }
+{
+    let start = frames::start_of(slot);
+    if start <= frames.len() {
+        frame_again(desk, d, n, &mut frames[start..]);
+    }
 }

@@ -7,6 +7,9 @@ use rows::WIDTH;
 // The size of the largest frame.
 pub const ROOM: usize = 23 + 3 * WIDTH;
 
+// What every byte holds before it is lent, where a case shows those that a call keeps.
+pub const FILL: u8 = 0x77;
+
 // The size of a frame by its second byte.
 fn size_of(low: u8) -> usize {
     low as usize + 2

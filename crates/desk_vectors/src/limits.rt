@@ -50,15 +50,15 @@ fn steps(maker: Desk, taker: Desk, times: usize) -> Pair
 pub fn waiting() {
     let mut space = [0u8; 3 * frames::ROOM];
     let frames: &mut [u8] = &mut space;
-    let a = calls::new(b"New 1", 1);
-    let b = calls::new(b"New 2", 2);
-    let c = calls::mark_in(b"1.1", a, frames, 0);
+    let a = calls::new(1);
+    let b = calls::new(2);
+    let c = calls::mark_in(a, 1, 1, frames, 0);
     let p = steps(c, b, WAITING - 1);
     let maker = p.maker;
     let taker = p.taker;
-    let d = calls::mark_in(b"1.65", maker, frames, 1);
+    let d = calls::mark_in(maker, 1, 65, frames, 1);
     let e = calls::receive_from(b"the 64th waiting mark", taker, frames, 1);
-    calls::mark_in(b"1.66", d, frames, 2);
+    calls::mark_in(d, 1, 66, frames, 2);
     let g = calls::receive_from(b"the 65th waiting mark", e, frames, 2);
     let h = calls::receive_from(b"a known waiting mark", g, frames, 1);
     let i = calls::receive_from(b"1.1 releases them", h, frames, 0);
@@ -71,7 +71,7 @@ fn filled(own: u8, times: usize) -> Desk
 {
     let mut space = [0u8; frames::ROOM];
     let out: &mut [u8] = &mut space;
-    let mut desk = calls::new(b"New", own);
+    let mut desk = calls::new(own);
     let mut i = 0;
     while i < times {
         let r = desk.mark(frames::extent(), out);
@@ -84,9 +84,9 @@ fn filled(own: u8, times: usize) -> Desk
 
 // Desk 2 makes 2.1 and 2.2.
 fn others(frames: &mut [u8]) {
-    let a = calls::new(b"New 2", 2);
-    let b = calls::mark_in(b"2.1", a, frames, 0);
-    calls::mark_in(b"2.2", b, frames, 1);
+    let a = calls::new(2);
+    let b = calls::mark_in(a, 2, 1, frames, 0);
+    calls::mark_in(b, 2, 2, frames, 1);
 }
 
 // A desk makes its 512th mark.
@@ -94,7 +94,7 @@ fn executed(desk: Desk, frames: &mut [u8]) -> Desk
     requires { ⌜ Kept desk ⌝ }
     ensures { λ r. ⌜ Kept r ⌝ }
 {
-    let a = calls::mark_in(b"1.512", desk, frames, 2);
+    let a = calls::mark_in(desk, 1, NUMBERS, frames, 2);
     let b = calls::receive_from(b"full desk receives 2.1", a, frames, 0);
     calls::receive_from(b"full desk receives 1.512", b, frames, 2)
 }
@@ -104,7 +104,7 @@ fn refused(desk: Desk, frames: &mut [u8])
     requires { ⌜ Kept desk ⌝ }
 {
     calls::mark(b"full desk marks", desk, frames::extent(), frames);
-    calls::relate(b"full desk relates 1.1, 1.512", desk, 1, 1, 1, NUMBERS);
+    calls::relate(desk, 1, 1, 1, NUMBERS);
 }
 
 // 5 comes before 9, and 9 before 13.

@@ -1,10 +1,12 @@
-// Runs document 01's cases of New, Mark, Receive and Relate, a line each. The file stdout has what the document says.
+// Runs document 01's cases of the seven calls, a line each; Apart by its list, with no reference. The file stdout has what the document says.
 mod calls;
 mod frames;
 mod limits;
 mod refusals;
 mod scenario;
 mod show;
+mod sixteen;
+mod sums;
 
 fn main() {
     scenario::run();
@@ -14,4 +16,5 @@ fn main() {
     refusals::receive();
     limits::waiting();
     limits::full();
+    sixteen::run();
 }

@@ -4,15 +4,12 @@ use crate::frames;
 use crate::show;
 use frame::DESKS;
 
-// What every lent byte holds before Mark is called.
-const FILL: u8 = 0x77;
-
 pub fn new() {
-    calls::new(b"New 0", 0);
-    calls::new(b"New 16", DESKS);
+    calls::new(0);
+    calls::new(DESKS);
     let mut space = [0u8; frames::ROOM];
     let out: &mut [u8] = &mut space;
-    let d = calls::new(b"New 17", DESKS + 1);
+    let d = calls::new(DESKS + 1);
     calls::mark(b"desk of the refused New marks", d, frames::extent(), out);
     show::name(b"its mark: ", out);
     show::words(b"\n");
@@ -20,12 +17,12 @@ pub fn new() {
 
 // Mark of a fresh desk into so many bytes.
 fn lend(label: &[u8], lent: usize) {
-    let mut space = [FILL; 25];
+    let mut space = [frames::FILL; 25];
     let out: &mut [u8] = &mut space;
-    let d = calls::new(b"New 1", 1);
+    let d = calls::new(1);
     let e = calls::mark_first(label, d, out, lent);
     show::bytes(b"bytes", out);
-    calls::relate(b"Relate 1.1, 1.1", e, 1, 1, 1, 1);
+    calls::relate(e, 1, 1, 1, 1);
 }
 
 pub fn lent() {
@@ -35,9 +32,9 @@ pub fn lent() {
 
 // 1.1 and 1.2 of desk 1, and 1.2 with an empty stamp, in slots 0 to 2.
 fn stamps(frames: &mut [u8]) {
-    let a = calls::new(b"New 1", 1);
-    let b = calls::mark_in(b"1.1", a, frames, 0);
-    calls::mark_in(b"1.2", b, frames, 1);
+    let a = calls::new(1);
+    let b = calls::mark_in(a, 1, 1, frames, 0);
+    calls::mark_in(b, 1, 2, frames, 1);
     let start = frames::start_of(2);
     if start <= frames.len() {
         frames::false_stamp(&mut frames[start..]);
@@ -46,10 +43,10 @@ fn stamps(frames: &mut [u8]) {
 
 // The false stamp waits and is dropped, or is refused; then it is another frame of a known mark.
 fn executed(frames: &[u8]) {
-    let a = calls::new(b"New 2", 2);
+    let a = calls::new(2);
     let b = calls::receive_from(b"1.2 with empty stamp", a, frames, 2);
     let c = calls::receive_from(b"then 1.1", b, frames, 0);
-    calls::relate(b"Relate 1.1, 1.2", c, 1, 1, 1, 2);
+    calls::relate(c, 1, 1, 1, 2);
     let d = calls::receive_from(b"1.2 with empty stamp, 1.1 there", c, frames, 2);
     let e = calls::receive_from(b"1.2 with its own stamp", d, frames, 1);
     calls::receive_from(b"1.2 with empty stamp, 1.2 there", e, frames, 2);
@@ -57,7 +54,7 @@ fn executed(frames: &[u8]) {
 
 // The same of a waiting mark.
 fn waiting(frames: &[u8]) {
-    let a = calls::new(b"New 2", 2);
+    let a = calls::new(2);
     let b = calls::receive_from(b"1.2 with its own stamp, desk 2 fresh", a, frames, 1);
     let c = calls::receive_from(b"1.2 with empty stamp, 1.2 waiting", b, frames, 2);
     calls::receive_from(b"1.2 with its own stamp, 1.2 waiting", c, frames, 1);
@@ -79,7 +76,7 @@ fn altered(label: &[u8], own: u8, at: usize, value: u8) {
     if at < frame.len() {
         frame[at] = value;
     }
-    let d = calls::new(b"New", own);
+    let d = calls::new(own);
     calls::receive(label, d, frame);
 }
 
@@ -87,7 +84,7 @@ fn short(own: u8) {
     let mut space = [0u8; 32];
     let frame: &mut [u8] = &mut space;
     frames::document(frame);
-    let d = calls::new(b"New", own);
+    let d = calls::new(own);
     let whole = &frame[..];
     if 22 <= whole.len() {
         calls::receive(b"22 bytes", d, &whole[0..22]);
@@ -97,7 +94,7 @@ fn short(own: u8) {
 fn box_rule() {
     let mut space = [0u8; 32];
     let out: &mut [u8] = &mut space;
-    let d = calls::new(b"New", 1);
+    let d = calls::new(1);
     calls::mark(b"start = end", d, frames::no_extent(), out);
 }
 

@@ -1,28 +1,14 @@
-// A case's line: its label, and what the call answered in the document's words.
+// The parts of a line: words, numbers, marks, and what a call answered in the document's words.
+use causality::Counted;
 use causality::Created;
+use causality::Lowest;
 use causality::Marked;
 use causality::Received;
 use causality::Related;
 use frame::Refusal;
-
-// The document's number of a refusal.
-fn number_of(r: Refusal) -> u64 {
-    match r {
-        Refusal::DeskRange => 1,
-        Refusal::FrameLength => 2,
-        Refusal::FrameVersion => 3,
-        Refusal::EntryCount => 4,
-        Refusal::FieldRange => 5,
-        Refusal::EntryRange => 6,
-        Refusal::NotYetMade => 7,
-        Refusal::OtherBytes => 8,
-        Refusal::DeskFull => 9,
-        Refusal::WaitingFull => 10,
-        Refusal::FalseStamp => 11,
-        Refusal::NotExecuted => 12,
-        Refusal::OutputShort => 13,
-    }
-}
+use frame::Writing;
+use pairs::Listed;
+use rows::PLACES;
 
 pub fn words(s: &[u8]) {
     io::write_all(1, s);
@@ -38,7 +24,7 @@ fn wide(x: u8) -> u64 {
 }
 
 fn refused(r: Refusal) {
-    number(b": refused ", number_of(r));
+    number(b": refused ", r.number() as u64);
 }
 
 fn byte_at(s: &[u8], i: usize) -> u8 {
@@ -48,8 +34,14 @@ fn byte_at(s: &[u8], i: usize) -> u8 {
     0
 }
 
-fn both(high: u8, low: u8) -> u64 {
-    high as u64 * 256 + low as u64
+fn both(high: u8, low: u8) -> u16 {
+    high as u16 * 256 + low as u16
+}
+
+// Mark d.n.
+pub fn mark(label: &[u8], d: u8, n: u16) {
+    number(label, d as u64);
+    number(b".", n as u64);
 }
 
 // The entry of a stamp that starts at a byte.
@@ -57,7 +49,7 @@ fn entry(part: &[u8], i: usize) {
     if i < part.len() {
         let rest = &part[i..];
         number(b" (", wide(byte_at(rest, 0)));
-        number(b",", both(byte_at(rest, 1), byte_at(rest, 2)));
+        number(b",", both(byte_at(rest, 1), byte_at(rest, 2)) as u64);
         words(b")");
     }
 }
@@ -74,8 +66,11 @@ fn stamp(part: &[u8]) {
 
 // The name of the mark in a frame.
 pub fn name(label: &[u8], frame: &[u8]) {
-    number(label, wide(byte_at(frame, 3)));
-    number(b".", both(byte_at(frame, 4), byte_at(frame, 5)));
+    mark(
+        label,
+        byte_at(frame, 3),
+        both(byte_at(frame, 4), byte_at(frame, 5)),
+    );
 }
 
 // How many bytes there are, and each of them.
@@ -91,8 +86,7 @@ pub fn bytes(label: &[u8], s: &[u8]) {
     words(b"\n");
 }
 
-pub fn created(label: &[u8], answer: Created) {
-    words(label);
+pub fn created(answer: Created) {
     match answer {
         Created::Empty => words(b": empty desk"),
         Created::Refused(r) => refused(r),
@@ -108,8 +102,7 @@ fn made(n: u16, size: usize, out: &[u8]) {
     }
 }
 
-pub fn marked(label: &[u8], answer: Marked, out: &[u8]) {
-    words(label);
+pub fn marked(answer: Marked, out: &[u8]) {
     match answer {
         Marked::Made(n, size) => made(n.0, size, out),
         Marked::Refused(r) => refused(r),
@@ -123,8 +116,7 @@ fn executed(k: u16, f: u16) {
     words(b")");
 }
 
-pub fn received(label: &[u8], answer: Received) {
-    words(label);
+pub fn received(answer: Received) {
     match answer {
         Received::Known => words(b": Known"),
         Received::Waiting => words(b": Waiting"),
@@ -134,14 +126,63 @@ pub fn received(label: &[u8], answer: Received) {
     words(b"\n");
 }
 
-pub fn related(label: &[u8], answer: Related) {
-    words(label);
+pub fn related(answer: Related) {
     match answer {
         Related::Same => words(b": Same"),
         Related::Before => words(b": Before"),
         Related::After => words(b": After"),
         Related::Concurrent => words(b": Concurrent"),
         Related::Refused(r) => refused(r),
+    }
+    words(b"\n");
+}
+
+// A mark of a list.
+fn listed(list: Listed, i: usize) {
+    if i < PLACES {
+        let m = pairs::pair_at(list, i);
+        let n = m.number;
+        mark(b" ", m.desk, n.0);
+    }
+}
+
+// The marks of a list, none beside a refusal.
+fn marks(list: Listed) {
+    words(b", marks");
+    let count = list.count;
+    let mut i = 0;
+    while i < count {
+        listed(list, i);
+        i += 1;
+    }
+}
+
+pub fn counted(answer: Counted, list: Listed) {
+    match answer {
+        Counted::Count(n) => number(b": count ", n as u64),
+        Counted::Refused(r) => refused(r),
+    }
+    marks(list);
+    words(b"\n");
+}
+
+fn numbered(n: u16) {
+    number(b": ", n as u64);
+}
+
+pub fn lowest(answer: Lowest) {
+    match answer {
+        Lowest::Number(n) => numbered(n.0),
+        Lowest::None => words(b": 0"),
+        Lowest::Refused(r) => refused(r),
+    }
+    words(b"\n");
+}
+
+pub fn written(answer: Writing) {
+    match answer {
+        Writing::Size(size) => number(b": size ", size as u64),
+        Writing::Refused(r) => refused(r),
     }
     words(b"\n");
 }

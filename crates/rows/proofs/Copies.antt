@@ -1,15 +1,15 @@
 -- Loops that compare rows and search places, turn by turn. Assumes nothing.
 use mathlib.Core.Path.{_≡_, refl, sym, ap, _∙_, subst}
-use mathlib.Core.Bool.{Bool, true, false, not, _&&_, and-false}
+use mathlib.Core.Bool.{true, false, and-false}
 use mathlib.Core.List.{List, [], _∷_}
-use mathlib.Core.Logic.{_⊎_, inl, inr, ⊎-elim}
-use mathlib.Core.Option.{Option, none, some}
-use Prim.Native.Nat.{ℕ, zero, suc, _+_, _-_, _*_, _≤_, _<_}
+use mathlib.Core.Logic.{⊎-elim}
+use mathlib.Core.Option.{some}
+use Prim.Native.Nat.{ℕ, zero, suc, _+_, _-_, _≤_, _<_}
 use native.Mathlib.Nat.{eq-or-lt-of-le}
 use native.Mathlib.Numerals.{add-one, sub-one}
 use native.Mathlib.Omega.{arith}
 use borrow.Author.Tests.{lt-ltb, le-ltb, eq-eqb, ne-eqb}
-use lib.Dec.{eqb, ltb}
+use lib.Dec.{eqb}
 use lib.ListN.{getD}
 use Rattle.frame.specs.Mark.{MarkId}
 use Rattle.frame.specs.declared.MarkBox.{MarkBox}
@@ -31,17 +31,13 @@ module _ (a b : List ℕ) where
 
 -- SEARCH
 
--- found is the place of the newest of the first p marks that has the name, or the count.
-pub record Found (n count desk number : ℕ) (ds ns : List ℕ) (found p : ℕ) : Type 0 where
+-- The mark of the name, if any, is among the first p.
+pub record Below (n count desk number : ℕ) (ds ns : List ℕ) (p : ℕ) : Type 0 where
   pub turns : p ≤ count
-  pub small : found ≤ count
-  pub found-is : (bs : List MarkBox) (ss : List ℕ) → placeAt n count found ds ns bs ss ≡ find markId (record { desk = desk; number = number }) (view n p ds ns bs ss)
+  pub below : (bs : ℕ → MarkBox) (ss : List ℕ)
+      → find markId (record { desk = desk; number = number }) (view n count ds ns bs ss) ≡ find markId (record { desk = desk; number = number }) (view n p ds ns bs ss)
 
 module _ (n count desk number : ℕ) (ds ns : List ℕ) where
-  pub found-none : Found n count desk number ds ns count 0
-  unfolding placeAt view
-  found-none = record { turns = omega arith; small = omega arith; found-is = λ bs ss. let f : ltb count count ≡ false = le-ltb count count (omega arith) in rw (f, placeAt) refl }
-
   hit : (p : ℕ) → (getD ds p 0 ≡ desk) → (getD ns p 0 ≡ number) → same (record { desk = desk; number = number }) (record { desk = getD ds p 0; number = getD ns p 0 }) ≡ true
   unfolding same
   hit p d m = rw (eq-eqb desk (getD ds p 0) (sym d), eq-eqb number (getD ns p 0) (sym m)) refl
@@ -54,10 +50,6 @@ module _ (n count desk number : ℕ) (ds ns : List ℕ) where
   unfolding same
   miss-number p m = rw (ne-eqb number (getD ns p 0) (λ e. m (sym e))) (and-false (eqb desk (getD ds p 0)))
 
-  view-more : (p : ℕ) (bs : List MarkBox) (ss : List ℕ) → view n (p + 1) ds ns bs ss ≡ markAt n ds ns bs ss p ∷ view n p ds ns bs ss
-  unfolding view
-  view-more p bs ss = rw (add-one p) refl
-
   find-hit : (i : MarkId) (m : Mark) (ms : List Mark) → same i (m .id) ≡ true → find markId i (m ∷ ms) ≡ some m
   find-hit i m ms e = rw (e, find) refl
 
@@ -67,24 +59,37 @@ module _ (n count desk number : ℕ) (ds ns : List ℕ) where
   abbrev name : MarkId
   name = record { desk = desk; number = number }
 
-  pub found-hit : (found p found′ : ℕ) → Found n count desk number ds ns found p → p < count → getD ds p 0 ≡ desk → getD ns p 0 ≡ number → found′ ≡ p → Found n count desk number ds ns found′ (p + 1)
-  unfolding placeAt
-  found-hit found p found′ w h d m e = rw e (record {
-    turns = omega arith;
-    small = omega arith;
-    found-is = λ bs ss. rw (lt-ltb p count h, placeAt) (sym (ap (find markId name) (view-more p bs ss) ∙ find-hit name (markAt n ds ns bs ss p) (view n p ds ns bs ss) (hit p d m)));
-  })
+  pub below-all : Below n count desk number ds ns count
+  below-all = record { turns = omega arith; below = λ bs ss. refl }
 
-  found-miss : (found p found′ : ℕ) → Found n count desk number ds ns found p → p < count
-      → same name (record { desk = getD ds p 0; number = getD ns p 0 }) ≡ false → found′ ≡ found → Found n count desk number ds ns found′ (p + 1)
-  found-miss found p found′ w h s e = rw e (record {
-    turns = omega arith;
-    small = w .small;
-    found-is = λ bs ss. w .found-is bs ss ∙ sym (ap (find markId name) (view-more p bs ss) ∙ find-miss name (markAt n ds ns bs ss p) (view n p ds ns bs ss) s);
-  })
+  -- The newest of them has the name.
+  pub below-hit : (p : ℕ) → Below n count desk number ds ns p → 0 < p → getD ds (p - 1) 0 ≡ desk → getD ns (p - 1) 0 ≡ number
+      → (bs : ℕ → MarkBox) (ss : List ℕ) → placeAt n count (p - 1) ds ns bs ss ≡ find markId name (view n count ds ns bs ss)
+  unfolding placeAt view
+  below-hit zero w h d m bs ss = let z : ⊥ = omega arith in absurd z
+  below-hit (suc k) w h d m bs ss =
+      let e : suc k - 1 ≡ k = sub-one (suc k) in
+      let t = w .turns in
+      let d′ : getD ds k 0 ≡ desk = rw e at d in
+      let m′ : getD ns k 0 ≡ number = rw e at m in
+      ap (λ (q : ℕ). placeAt n count q ds ns bs ss) e ∙ rw (lt-ltb k count (omega arith), placeAt) (sym (w .below bs ss ∙ find-hit name (markAt n ds ns bs ss k) (view n k ds ns bs ss) (hit k d′ m′)))
 
-  pub found-no-desk : (found p found′ : ℕ) → Found n count desk number ds ns found p → p < count → (getD ds p 0 ≡ desk → ⊥) → found′ ≡ found → Found n count desk number ds ns found′ (p + 1)
-  found-no-desk found p found′ w h d e = found-miss found p found′ w h (miss-desk p d) e
+  below-miss : (p : ℕ) → Below n count desk number ds ns p → 0 < p → same name (record { desk = getD ds (p - 1) 0; number = getD ns (p - 1) 0 }) ≡ false → Below n count desk number ds ns (p - 1)
+  unfolding view
+  below-miss zero w h s = let z : ⊥ = omega arith in absurd z
+  below-miss (suc k) w h s =
+      let e : suc k - 1 ≡ k = sub-one (suc k) in
+      let t = w .turns in
+      let s′ : same name (record { desk = getD ds k 0; number = getD ns k 0 }) ≡ false = rw e at s in
+      rw e (record { turns = omega arith; below = λ bs ss. w .below bs ss ∙ find-miss name (markAt n ds ns bs ss k) (view n k ds ns bs ss) s′ })
 
-  pub found-no-number : (found p found′ : ℕ) → Found n count desk number ds ns found p → p < count → (getD ns p 0 ≡ number → ⊥) → found′ ≡ found → Found n count desk number ds ns found′ (p + 1)
-  found-no-number found p found′ w h m e = found-miss found p found′ w h (miss-number p m) e
+  pub below-no-desk : (p : ℕ) → Below n count desk number ds ns p → 0 < p → (getD ds (p - 1) 0 ≡ desk → ⊥) → Below n count desk number ds ns (p - 1)
+  below-no-desk p w h d = below-miss p w h (miss-desk (p - 1) d)
+
+  pub below-no-number : (p : ℕ) → Below n count desk number ds ns p → 0 < p → (getD ns (p - 1) 0 ≡ number → ⊥) → Below n count desk number ds ns (p - 1)
+  below-no-number p w h m = below-miss p w h (miss-number (p - 1) m)
+
+  -- None is left.
+  pub below-none : (p : ℕ) → Below n count desk number ds ns p → p ≡ 0 → (bs : ℕ → MarkBox) (ss : List ℕ) → placeAt n count count ds ns bs ss ≡ find markId name (view n count ds ns bs ss)
+  unfolding placeAt view
+  below-none p w e bs ss = rw (le-ltb count count (omega arith), placeAt) (sym (w .below bs ss ∙ ap (λ (k : ℕ). find markId name (view n k ds ns bs ss)) e))

@@ -123,7 +123,7 @@ module _ (l : List Mark) (s : Sound l) (a : All (λ m. Strict (m .stamp)) l) (d 
 
 -- THE ROWS OF A VIEW
 
-module _ (n : ℕ) (ds ns : List ℕ) (bs : List MarkBox) (ss : List ℕ) where
+module _ (n : ℕ) (ds ns : List ℕ) (bs : ℕ → MarkBox) (ss : List ℕ) where
   -- Its stamps rise strictly by desk, and name by their rows.
   view-strict : (p : ℕ) → All (λ m. Strict (m .stamp)) (view n p ds ns bs ss)
   unfolding view

@@ -16,7 +16,7 @@ use Rattle.causality.specs.Marks.{tally}
 use Rattle.causality.specs.State.{ids}
 use Rattle.causality.proofs.Rows.{rowOf}
 use Rattle.causality.proofs.RowLaws.{entriesOfRow, row-of-entries, under}
-use Rattle.rows.specs.View.{Named, allWithin, rowAt, rowFn, someReached, view}
+use Rattle.rows.specs.View.{Named, allWithin, noBox, rowAt, rowFn, someReached, view}
 
 -- The first j of a row's n counts are those of f, the later ones are as at the start.
 pub record Passed (n : ℕ) (f : ℕ → ℕ) (r₀ r : List ℕ) (j : ℕ) : Type 0 where
@@ -125,14 +125,14 @@ named-less n count ds p f h q l = f q (omega arith)
 -- The counts of t are how many of the first p marks are of each desk, whatever else the marks carry.
 pub record Tallied (n : ℕ) (ds t : List ℕ) (p : ℕ) : Type 0 where
   pub long : length t ≡ n
-  pub counts : (ns ss : List ℕ) (bs : List MarkBox) (j : ℕ) → j < n → getD t j 0 ≡ tally (suc j) (ids (view n p ds ns bs ss))
+  pub counts : (ns ss : List ℕ) (bs : ℕ → MarkBox) (j : ℕ) → j < n → getD t j 0 ≡ tally (suc j) (ids (view n p ds ns bs ss))
 
 module _ (n : ℕ) (ds : List ℕ) where
   pub tallied-none : Tallied n ds (replicate n 0) 0
   unfolding view
   tallied-none = record { long = length-replicate {A = ℕ} n 0; counts = λ ns ss bs j h. getD-replicate {A = ℕ} n j 0 0 h }
 
-  tally-le : (p d : ℕ) (ns ss : List ℕ) (bs : List MarkBox) → tally d (ids (view n p ds ns bs ss)) ≤ p
+  tally-le : (p d : ℕ) (ns ss : List ℕ) (bs : ℕ → MarkBox) → tally d (ids (view n p ds ns bs ss)) ≤ p
   unfolding view
   tally-le zero d ns ss bs = omega arith
   tally-le (suc p) d ns ss bs = go (eqb d (getD ds p 0)) (tally-le p d ns ss bs)
@@ -146,9 +146,9 @@ module _ (n : ℕ) (ds : List ℕ) where
 
   -- A count is at most the number of marks passed.
   pub tallied-le : (t : List ℕ) (p j : ℕ) → Tallied n ds t p → j < n → getD t j 0 ≤ p
-  tallied-le t p j w h = rw (w .counts [] [] [] j h) (tally-le p (suc j) [] [] [])
+  tallied-le t p j w h = rw (w .counts [] [] (λ q. noBox) j h) (tally-le p (suc j) [] [] (λ q. noBox))
 
-  pub tallied-all : (t : List ℕ) (p count : ℕ) → Tallied n ds t p → p ≡ count → (ns ss : List ℕ) (bs : List MarkBox) (j : ℕ) → j < n → getD t j 0 ≡ tally (suc j) (ids (view n count ds ns bs ss))
+  pub tallied-all : (t : List ℕ) (p count : ℕ) → Tallied n ds t p → p ≡ count → (ns ss : List ℕ) (bs : ℕ → MarkBox) (j : ℕ) → j < n → getD t j 0 ≡ tally (suc j) (ids (view n count ds ns bs ss))
   tallied-all t p count w e = rw e at (w .counts)
 
   -- A turn: one more mark, of the desk at p.
@@ -162,7 +162,7 @@ module _ (n : ℕ) (ds : List ℕ) where
       v : ℕ
       v = getD t i 0 + 1
 
-      more : (ns ss : List ℕ) (bs : List MarkBox) (j : ℕ) → j < n → getD (set t i v) j 0 ≡ tally (suc j) (ids (view n (suc p) ds ns bs ss))
+      more : (ns ss : List ℕ) (bs : ℕ → MarkBox) (j : ℕ) → j < n → getD (set t i v) j 0 ≡ tally (suc j) (ids (view n (suc p) ds ns bs ss))
       more ns ss bs j h = go (eqb (suc j) (getD ds p 0)) refl
         where
           x : ℕ
@@ -187,7 +187,7 @@ choice b b′ f g f′ g′ d q y n = ap (λ (c : Bool). (elim c as (λ z. ℕ �
     go true = y
     go false = n
 
-module _ (n : ℕ) (ds ns : List ℕ) (bs : List MarkBox) (ss : List ℕ) (s : ℕ → ℕ) where
+module _ (n : ℕ) (ds ns : List ℕ) (bs : ℕ → MarkBox) (ss : List ℕ) (s : ℕ → ℕ) where
   pub under-cong : (k : ℕ) → Named n k ds → (r r′ : ℕ → ℕ) → ((d : ℕ) → 1 ≤ d → d ≤ n → r d ≡ r′ d)
       → (d : ℕ) → 1 ≤ d → d ≤ n → under (view n k ds ns bs ss) s r d ≡ under (view n k ds ns bs ss) s r′ d
   unfolding view
@@ -239,7 +239,11 @@ module _ (n : ℕ) (ds ns : List ℕ) (bs : List MarkBox) (ss : List ℕ) (s : �
       let q′ : leb (getD ns k 0) (max (s (getD ds k 0)) (rowFn row (getD ds k 0))) ≡ false = rw e at q in
       rw (e, q′, under)
 
+  -- The place to stop at is reached.
+  pub under-reached : (k to : ℕ) (row : List ℕ) → to ≤ k → k ≤ to → (j : ℕ) → under (view n to ds ns bs ss) s (rowFn row) (suc j) ≡ under (view n k ds ns bs ss) s (rowFn row) (suc j)
+  under-reached k to row h l j = let e : to ≡ k = omega arith in ap (λ (x : ℕ). under (view n x ds ns bs ss) s (rowFn row) (suc j)) e
+
   -- No mark is left.
-  pub under-none : (k : ℕ) (row : List ℕ) → k ≡ 0 → (j : ℕ) → getD row j 0 ≡ under (view n k ds ns bs ss) s (rowFn row) (suc j)
+  pub under-none : (row : List ℕ) (j : ℕ) → getD row j 0 ≡ under (view n 0 ds ns bs ss) s (rowFn row) (suc j)
   unfolding view
-  under-none k row z j = let e : suc j - 1 ≡ j = sub-one (suc j) in rw (z, e) refl
+  under-none row j = let e : suc j - 1 ≡ j = sub-one (suc j) in rw e refl

@@ -1,10 +1,12 @@
 -- The arrays of a desk as marks: rows of counts, the mark at a place, the executed marks newest first.
+use mathlib.Core.Path.{_≡_}
 use mathlib.Core.Bool.{Bool, true, false, _&&_, _||_}
 use mathlib.Core.List.{List, [], _∷_}
+use mathlib.Core.Logic.{_⊎_}
 use mathlib.Core.Option.{Option, none, some}
 use Prim.Native.Nat.{ℕ, zero, suc, _+_, _-_, _*_, _≤_, _<_}
 use lib.Dec.{leb, ltb, eqb}
-use lib.ListN.{getD}
+use lib.ListN.{length, getD}
 use Rattle.frame.specs.Mark.{desks}
 use Rattle.frame.specs.declared.MarkBox.{MarkBox}
 use Rattle.causality.specs.State.{Mark}
@@ -25,16 +27,20 @@ rowAt n ss p d = getD ss (p * n + (d - 1)) 0
 abbrev pub noBox : MarkBox
 noBox = record { start = 0; end = 0; low = 0; high = 0 }
 
--- The mark at place p of the arrays: desks, numbers, boxes, stamps.
-abbrev pub markAt : ℕ → List ℕ → List ℕ → List MarkBox → List ℕ → ℕ → Mark
+-- Box p of boxes that are laid out one behind another, four values each.
+abbrev pub boxAt : List ℕ → ℕ → MarkBox
+boxAt xs p = record { start = getD xs (p * 4) 0; end = getD xs (p * 4 + 1) 0; low = getD xs (p * 4 + 2) 0; high = getD xs (p * 4 + 3) 0 }
+
+-- The mark at place p: desks, numbers, boxes by place, stamps.
+abbrev pub markAt : ℕ → List ℕ → List ℕ → (ℕ → MarkBox) → List ℕ → ℕ → Mark
 markAt n ds ns bs ss p = record {
   id = record { desk = getD ds p 0; number = getD ns p 0 };
-  extent = getD bs p noBox;
+  extent = bs p;
   stamp = entriesOfRow n (rowAt n ss p);
 }
 
 -- The first so many of them, newest first.
-unfoldable pub view : ℕ → ℕ → List ℕ → List ℕ → List MarkBox → List ℕ → List Mark
+unfoldable pub view : ℕ → ℕ → List ℕ → List ℕ → (ℕ → MarkBox) → List ℕ → List Mark
 view n zero ds ns bs ss = []
 view n (suc p) ds ns bs ss = markAt n ds ns bs ss p ∷ view n p ds ns bs ss
 
@@ -52,15 +58,30 @@ abbrev pub someReached : ℕ → List ℕ → List ℕ → Bool
 someReached zero s r = false
 someReached (suc k) s r = (ltb 0 (getD s k 0) && leb (getD s k 0) (getD r k 0)) || someReached k s r
 
+-- How many of the first k counts of a row are no 0.
+unfoldable pub namesIn : ℕ → List ℕ → ℕ
+namesIn zero r = 0
+namesIn (suc k) r = elim (ltb 0 (getD r k 0)) [ true ↦ suc (namesIn k r) | false ↦ namesIn k r ]
+
 -- A head h of a desk with n marks, after a row that names mark x of that desk.
 abbrev pub struck : ℕ → ℕ → ℕ → ℕ
 struck x n h = elim (eqb x n) [ true ↦ 0 | false ↦ h ]
 
 -- The mark at a place below the count, or none.
-unfoldable pub placeAt : ℕ → ℕ → ℕ → List ℕ → List ℕ → List MarkBox → List ℕ → Option Mark
+unfoldable pub placeAt : ℕ → ℕ → ℕ → List ℕ → List ℕ → (ℕ → MarkBox) → List ℕ → Option Mark
 placeAt n count p ds ns bs ss = elim (ltb p count) [ true ↦ some (markAt n ds ns bs ss p) | false ↦ none ]
 
 -- Two rows have the same counts for the first k desks.
 abbrev pub sameCounts : ℕ → (ℕ → ℕ) → (ℕ → ℕ) → Bool
 sameCounts zero r s = true
 sameCounts (suc k) r s = eqb (r (suc k)) (s (suc k)) && sameCounts k r s
+
+-- An array of n numbers of which those from the k-th on are zero.
+pub record ZeroFrom (xs : List ℕ) (n k : ℕ) : Type 0 where
+  pub long : length xs ≡ n
+  pub zeros : (p : ℕ) → k ≤ p → getD xs p 0 ≡ 0
+
+-- An array after a store at the n indices from base on: as long as before, and all else as it was.
+pub record SameOutside (before after : List ℕ) (base n : ℕ) : Type 0 where
+  pub long : length after ≡ length before
+  pub same : (q : ℕ) → (q < base) ⊎ (base + n ≤ q) → getD after q 0 ≡ getD before q 0

@@ -1,26 +1,30 @@
 // The engine's inner functions over lent arrays and rows by value: one count for each desk.
 ghost use mathlib.Core.Path.{_≡_};
-ghost use mathlib.Core.Bool.{_&&_, _||_};
+ghost use mathlib.Core.Bool.{false, _&&_, _||_};
 ghost use mathlib.Core.List.{List};
 ghost use Prim.Native.Nat.{ℕ, suc, max, _+_, _-_, _*_, _≤_, _<_};
 ghost use lib.Dec.{leb, ltb};
 ghost use lib.ListN.{length, getD, take};
 ghost use Rattle.frame.specs.Frame.{entriesOf, entryBytes};
 ghost use Rattle.frame.specs.declared.MarkBox.{MarkBox};
-ghost use Rattle.causality.specs.Marks.{places, tally, find};
+ghost use Rattle.causality.specs.Marks.{places, has, tally, find};
 ghost use Rattle.causality.specs.State.{ids, heads, markId};
 ghost use Rattle.causality.proofs.Rows.{rowOf};
 ghost use Rattle.causality.proofs.Reach.{Sound};
 ghost use Rattle.causality.proofs.RowLaws.{under, entriesOfRow};
-ghost use Rattle.rows.specs.View.{width, rowFn, rowAt, view, Named, allWithin, someReached, struck, placeAt, sameCounts};
+ghost use Rattle.rows.specs.View.{width, rowFn, view, Named, allWithin, someReached, namesIn, struck, placeAt, sameCounts, boxAt, SameOutside};
 use causality::Place;
 use frame::DESKS;
+use frame::MarkBox;
 use frame::NUMBERS;
 
 // A row has a count for each desk; a desk has so many places.
 pub const WIDTH: usize = DESKS as usize;
 
 pub const PLACES: usize = NUMBERS as usize;
+
+// Values of a box.
+pub const BOX: usize = 4;
 
 // At each desk the greater of the row's count and that of row p of the stamps.
 pub fn join(stamps: &[u16; PLACES * WIDTH], p: usize, mut row: [u16; WIDTH]) -> [u16; WIDTH]
@@ -50,8 +54,8 @@ pub fn counted(entries: [u16; WIDTH], below: [u16; WIDTH], d: usize, n: u16) -> 
     n <= below[d]
 }
 
-// Follows stamp entries down from a place: of the marks before it, those that precede an entry are added to `below`.
-// The place of the examined mark falls at each call.
+// Follows stamp entries down from a place to another: of the marks between, those that precede an entry are added to `below`.
+// The rest of the pass then gives what the whole pass gives. The place of the examined mark falls at each call.
 pub fn trace<'a>(
     desks: &'a [u8; PLACES],
     numbers: &'a [u16; PLACES],
@@ -59,11 +63,12 @@ pub fn trace<'a>(
     entries: [u16; WIDTH],
     below: [u16; WIDTH],
     at: Place,
+    to: Place,
 ) -> [u16; WIDTH]
-    requires { ⌜ (at .0 ≤ places) × Named width (at .0) (now desks) ⌝ }
-    ensures { λ r. ⌜ ((bs : List MarkBox) (j : ℕ) → j < width → getD r j 0 ≡ under (view width (at .0) (now (desks .entry)) (now (numbers .entry)) bs (now (stamps .entry))) (rowFn entries) (rowFn below) (suc j)) ⌝ }
+    requires { ⌜ (at .0 ≤ places) × Named width (at .0) (now desks) × (to .0 ≤ at .0) ⌝ }
+    ensures { λ r. ⌜ ((bs : ℕ → MarkBox) (j : ℕ) → j < width → under (view width (to .0) (now (desks .entry)) (now (numbers .entry)) bs (now (stamps .entry))) (rowFn entries) (rowFn r) (suc j) ≡ under (view width (at .0) (now (desks .entry)) (now (numbers .entry)) bs (now (stamps .entry))) (rowFn entries) (rowFn below) (suc j)) ⌝ }
 {
-    if at.0 == 0 {
+    if at.0 <= to.0 {
         return below;
     }
     let p = at.0 - 1;
@@ -77,16 +82,61 @@ pub fn trace<'a>(
             entries,
             join(stamps, p, below),
             Place(p),
+            to,
         )
     } else {
-        trace(desks, numbers, stamps, entries, below, Place(p))
+        trace(desks, numbers, stamps, entries, below, Place(p), to)
     }
+}
+
+// How many marks a row names.
+fn names(row: [u16; WIDTH]) -> usize
+    ensures { λ r. ⌜ r ≡ namesIn width row ⌝ }
+{
+    let mut n = 0;
+    let mut j = 0;
+    while j < WIDTH {
+        if 0 < row[j] {
+            n += 1;
+        }
+        j += 1;
+    }
+    n
+}
+
+// A place before which no mark that a row names stands: that of the oldest of them, or 0 where not all are among the first so many.
+pub fn oldest<'a>(
+    desks: &'a [u8; PLACES],
+    numbers: &'a [u16; PLACES],
+    mut row: [u16; WIDTH],
+    count: usize,
+) -> usize
+    requires { ⌜ (count ≤ places) × Named width count (now desks) ⌝ }
+    ensures { λ r. ⌜ (r ≤ count) × ((bs : ℕ → MarkBox) (ss : List ℕ) → Sound (view width count (now (desks .entry)) (now (numbers .entry)) bs ss) → (j : ℕ) → j < width → 0 < getD row j 0 → has (record { desk = suc j; number = getD row j 0 }) (ids (view width r (now (desks .entry)) (now (numbers .entry)) bs ss)) ≡ false) ⌝ }
+{
+    let mut left = names(row);
+    let mut p = count;
+    while 0 < p {
+        if left == 0 {
+            return p;
+        }
+        p -= 1;
+        let d = desks[p] as usize - 1;
+        let n = row[d];
+        if n == numbers[p] {
+            if 0 < n {
+                row[d] = 0;
+                left -= 1;
+            }
+        }
+    }
+    p
 }
 
 // The tally: for each desk, how many of the first so many marks are its.
 pub fn tally(desks: &[u8; PLACES], count: usize) -> [u16; WIDTH]
     requires { ⌜ (count ≤ places) × Named width count (now desks) ⌝ }
-    ensures { λ r. ⌜ ((ns ss : List ℕ) (bs : List MarkBox) (j : ℕ) → j < width → getD r j 0 ≡ tally (suc j) (ids (view width count (now (desks .entry)) ns bs ss))) ⌝ }
+    ensures { λ r. ⌜ ((ns ss : List ℕ) (bs : ℕ → MarkBox) (j : ℕ) → j < width → getD r j 0 ≡ tally (suc j) (ids (view width count (now (desks .entry)) ns bs ss))) ⌝ }
 {
     let mut t = [0u16; WIDTH];
     let mut p = 0;
@@ -162,7 +212,7 @@ pub fn heads<'a>(
     count: usize,
 ) -> [u16; WIDTH]
     requires { ⌜ (count ≤ places) × Named width count (now desks) ⌝ }
-    ensures { λ r. ⌜ ((ns : List ℕ) (bs : List MarkBox) → Sound (view width count (now (desks .entry)) ns bs (now (stamps .entry))) → (j : ℕ) → j < width → getD r j 0 ≡ rowOf (heads (view width count (now (desks .entry)) ns bs (now (stamps .entry)))) (suc j)) ⌝ }
+    ensures { λ r. ⌜ ((ns : List ℕ) (bs : ℕ → MarkBox) → Sound (view width count (now (desks .entry)) ns bs (now (stamps .entry))) → (j : ℕ) → j < width → getD r j 0 ≡ rowOf (heads (view width count (now (desks .entry)) ns bs (now (stamps .entry)))) (suc j)) ⌝ }
 {
     let t = tally(desks, count);
     let mut h = t;
@@ -224,7 +274,7 @@ pub fn entries_of(row: [u16; WIDTH]) -> Entries
     }
 }
 
-// The place of a mark among the first so many, or their count.
+// The place of a mark among the first so many, or their count. Goes down from the newest mark, and by the number, which few marks share.
 pub fn find<'a>(
     desks: &'a [u8; PLACES],
     numbers: &'a [u16; PLACES],
@@ -233,19 +283,18 @@ pub fn find<'a>(
     number: u16,
 ) -> usize
     requires { ⌜ count ≤ places ⌝ }
-    ensures { λ r. ⌜ ((bs : List MarkBox) (ss : List ℕ) → placeAt width count r (now (desks .entry)) (now (numbers .entry)) bs ss ≡ find markId (record { desk = desk; number = number }) (view width count (now (desks .entry)) (now (numbers .entry)) bs ss)) × (r ≤ count) ⌝ }
+    ensures { λ r. ⌜ ((bs : ℕ → MarkBox) (ss : List ℕ) → placeAt width count r (now (desks .entry)) (now (numbers .entry)) bs ss ≡ find markId (record { desk = desk; number = number }) (view width count (now (desks .entry)) (now (numbers .entry)) bs ss)) × (r ≤ count) ⌝ }
 {
-    let mut found = count;
-    let mut p = 0;
-    while p < count {
-        if desks[p] == desk {
-            if numbers[p] == number {
-                found = p;
+    let mut p = count;
+    while 0 < p {
+        p -= 1;
+        if numbers[p] == number {
+            if desks[p] == desk {
+                return p;
             }
         }
-        p += 1;
     }
-    found
+    count
 }
 
 // Row p of the stamps.
@@ -261,6 +310,45 @@ pub fn row_at(stamps: &[u16; PLACES * WIDTH], p: usize) -> [u16; WIDTH]
         j += 1;
     }
     row
+}
+
+// Stores row p of the stamps.
+pub fn put_row(stamps: &mut [u16; PLACES * WIDTH], p: usize, row: [u16; WIDTH])
+    requires { ⌜ (length (now stamps) ≡ places * width) × (p < places) ⌝ }
+    ensures { λ _. ⌜ SameOutside (now (stamps .entry)) (now (stamps .exit)) (p * width) width × ((j : ℕ) → j < width → getD (now (stamps .exit)) (p * width + j) 0 ≡ getD row j 0) ⌝ }
+{
+    let base = p * WIDTH;
+    let mut j = 0;
+    while j < WIDTH {
+        stamps[base + j] = row[j];
+        j += 1;
+    }
+}
+
+// Box p of the boxes.
+pub fn box_at(boxes: &[u32; PLACES * BOX], p: usize) -> MarkBox
+    requires { ⌜ p < places ⌝ }
+    ensures { λ r. ⌜ r ≡ boxAt (now (boxes .entry)) p ⌝ }
+{
+    let base = p * BOX;
+    MarkBox {
+        start: boxes[base],
+        end: boxes[base + 1],
+        low: boxes[base + 2],
+        high: boxes[base + 3],
+    }
+}
+
+// Stores box p of the boxes.
+pub fn put_box(boxes: &mut [u32; PLACES * BOX], p: usize, extent: MarkBox)
+    requires { ⌜ (length (now boxes) ≡ places * 4) × (p < places) ⌝ }
+    ensures { λ _. ⌜ SameOutside (now (boxes .entry)) (now (boxes .exit)) (p * 4) 4 × (boxAt (now (boxes .exit)) p ≡ extent) ⌝ }
+{
+    let base = p * BOX;
+    boxes[base] = extent.start;
+    boxes[base + 1] = extent.end;
+    boxes[base + 2] = extent.low;
+    boxes[base + 3] = extent.high;
 }
 
 // Do two rows have the same counts?

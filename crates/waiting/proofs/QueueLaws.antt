@@ -67,6 +67,18 @@ helds-push i hs h l = helds-more i (set hs i h) h (sym (getD-set-same hs i h noH
 pub unused-push : (i : ℕ) (hs : List Held) (h : Held) → ((p : ℕ) → i ≤ p → getD hs p noHeld ≡ noHeld) → (p : ℕ) → i + 1 ≤ p → getD (set hs i h) p noHeld ≡ noHeld
 unused-push i hs h f p l = getD-set-other hs i p h noHeld (λ z. omega arith) ∙ f p (omega arith)
 
+-- All slots have rows of the width: those that are filled with nothing, and those after a store of a mark with such a row.
+pub rows-none : (p : ℕ) → length (getD (replicate waitingPlaces noHeld) p noHeld .row) ≡ width
+rows-none p = ap (λ (x : Held). length (x .row)) (filled waitingPlaces p noHeld) ∙ length-replicate {A = ℕ} width 0
+
+pub rows-set : (i : ℕ) (hs : List Held) (h : Held) → i < length hs → ((p : ℕ) → length (getD hs p noHeld .row) ≡ width) → length (h .row) ≡ width
+    → (p : ℕ) → length (getD (set hs i h) p noHeld .row) ≡ width
+rows-set i hs h l f e p = go (eqb i p) refl
+  where
+    go : (b : Bool) → eqb i p ≡ b → length (getD (set hs i h) p noHeld .row) ≡ width
+    go true q = ap (λ (k : ℕ). length (getD (set hs i h) k noHeld .row)) (sym (eqb-true i p q)) ∙ ap (λ (x : Held). length (x .row)) (getD-set-same hs i h noHeld l) ∙ e
+    go false q = ap (λ (x : Held). length (x .row)) (getD-set-other hs i p h noHeld (λ z. eqb-false i p q (sym z))) ∙ f p
+
 slot-some : (n i : ℕ) (hs : List Held) → i < n → slotAt n i hs ≡ some (getD hs i noHeld)
 unfolding slotAt
 slot-some n i hs l = rw (lt-ltb i n l, slotAt) refl
@@ -98,6 +110,7 @@ module _ (n : ℕ) (hs : List Held) (a : MarkId) where
     pub turns : i ≤ n
     pub few : count ≤ i
     pub long : length held ≡ waitingPlaces
+    pub rows : (p : ℕ) → length (getD held p noHeld .row) ≡ width
     pub kept : heldsOf count held ≡ without heldId a (heldsOf i hs)
     pub unused : (p : ℕ) → count ≤ p → getD held p noHeld ≡ noHeld
 
@@ -106,19 +119,21 @@ module _ (n : ℕ) (hs : List Held) (a : MarkId) where
     turns = omega arith;
     few = omega arith;
     long = ap length e ∙ length-replicate waitingPlaces noHeld;
+    rows = λ p. ap (λ (x : List Held). length (getD x p noHeld .row)) e ∙ rows-none p;
     kept = helds-none held ∙ ap (without heldId a) (sym (helds-none hs));
     unused = λ p l. ap (λ (x : List Held). getD x p noHeld) e ∙ filled waitingPlaces p noHeld;
   }
 
-  pub kept-more : (held held′ : List Held) (count count′ i : ℕ) (h : Held) → Kept held count i → i < n → n ≤ waitingPlaces → h ≡ getD hs i noHeld → same a (heldId h) ≡ false
+  pub kept-more : (held held′ : List Held) (count count′ i : ℕ) (h : Held) → Kept held count i → i < n → n ≤ waitingPlaces → length (h .row) ≡ width → h ≡ getD hs i noHeld → same a (heldId h) ≡ false
       → held′ ≡ set held count h → count′ ≡ count + 1 → Kept held′ count′ (i + 1)
-  kept-more held held′ count count′ i h w l m r e p q =
+  kept-more held held′ count count′ i h w l m t r e p q =
       let o = w .long in
       let b = w .few in
       rw (p, q) (record {
         turns = omega arith;
         few = omega arith;
         long = length-set held count h ∙ o;
+        rows = rows-set count held h (omega arith) (w .rows) t;
         kept = helds-push count held h (omega arith) ∙ rw (helds-more i hs h r, e, without) (ap (λ (xs : List Held). h ∷ xs) (w .kept));
         unused = unused-push count held h (w .unused);
       })
@@ -127,7 +142,7 @@ module _ (n : ℕ) (hs : List Held) (a : MarkId) where
       → held′ ≡ held → count′ ≡ count → Kept held′ count′ (i + 1)
   kept-less held held′ count count′ i h w l r e p q =
       let b = w .few in
-      rw (p, q) (record { turns = omega arith; few = omega arith; long = w .long; kept = rw (helds-more i hs h r, e, without) (w .kept); unused = w .unused })
+      rw (p, q) (record { turns = omega arith; few = omega arith; long = w .long; rows = w .rows; kept = rw (helds-more i hs h r, e, without) (w .kept); unused = w .unused })
 
 lower-new : (h v : Held) → h .desk ≤ v .desk → lower heldId h (some v) ≡ h
 lower-new h v l = rw (le-ltb (v .desk) (h .desk) l, lower) refl

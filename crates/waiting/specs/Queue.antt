@@ -5,7 +5,7 @@ use mathlib.Core.List.{List, [], _∷_}
 use mathlib.Core.Option.{Option, none, some}
 use Prim.Native.Nat.{ℕ, zero, suc, _-_, _≤_, _<_}
 use lib.Dec.{leb, ltb}
-use lib.ListN.{getD, replicate}
+use lib.ListN.{length, getD, replicate}
 use Rattle.frame.specs.Mark.{MarkId}
 use Rattle.causality.specs.Marks.{waitingPlaces}
 use Rattle.causality.specs.State.{Mark}
@@ -38,9 +38,11 @@ slotAt count i hs = elim (ltb i count) [ true ↦ some (getD hs i noHeld) | fals
 unfoldable pub readyBy : List ℕ → Held → Bool
 readyBy t h = allWithin width (h .row) t && leb (h .number .0) (suc (getD t (h .desk - 1) 0))
 
--- A queue in order: no more than its slots, and nothing in those unused.
+-- A queue in order: as many slots as there are places for waiting marks, rows of the width, no more marks than slots, and nothing in those unused.
 pub record Queued (q : Waiting) : Type 0 where
   pub few : q .count ≤ waitingPlaces
+  pub long : length (q .held) ≡ waitingPlaces
+  pub rows : (p : ℕ) → length (getD (q .held) p noHeld .row) ≡ width
   pub unused : (p : ℕ) → q .count ≤ p → getD (q .held) p noHeld ≡ noHeld
 
 -- Each mark held is of a desk from 1 to the width.

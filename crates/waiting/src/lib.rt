@@ -13,6 +13,7 @@ use rows::WIDTH;
 pub const WAITING: usize = 64;
 
 // A mark with its stamp as a row: at index d − 1 the number that it names of desk d, or 0.
+#[repr(C)]
 pub struct Held {
     pub desk: u8,
     pub number: Number,
@@ -20,6 +21,7 @@ pub struct Held {
     pub row: [u16; WIDTH],
 }
 
+#[repr(C)]
 pub struct Waiting {
     pub count: usize,
     pub held: [Held; WAITING],

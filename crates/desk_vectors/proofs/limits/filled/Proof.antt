@@ -19,9 +19,6 @@ abbrev μ-loop : tie.MeasureT-loop
 slice-aggregate-out : tie.Need-slice-aggregate-out Inv-loop μ-loop
 slice-aggregate-out c = search needs
 
-slice-aggregate-new : tie.Need-slice-aggregate-new Inv-loop μ-loop
-slice-aggregate-new c = search needs
-
 new-requires : tie.Need-new-requires Inv-loop μ-loop
 new-requires c κs = search needs
 
@@ -53,7 +50,6 @@ filled-spec =
     Inv-loop
     μ-loop
     slice-aggregate-out
-    slice-aggregate-new
     new-requires
     loop-holds
     extent-requires

@@ -1,6 +1,8 @@
 -- `without` meets its contract. Invariant: the others of the slots passed stand in order in `held`, whose later slots are unused.
 use mathlib.Core.Logic.{⊎-elim}
-use mathlib.Core.Path.{_∙_, _≡_, sym}
+use mathlib.Core.Path.{_∙_, _≡_, ap, sym}
+use lib.ListN.{length}
+use Rattle.waiting.specs.declared.Held.{Held}
 use Prim.Native.Nat.{_<_, _-_}
 use native.Mathlib.Omega.{arith}
 use borrow.Author.Tests.{not-false, not-true}
@@ -25,8 +27,9 @@ loop-again c =
     let q = s .args .t1 in
     let l : b .loop .i < q .count = search needs in
     let r = slot-read (q .held) (b .loop .i) _ (s .good .0 .1 .1 .1 .0 .1 .0 .1) (omega arith) in
+    let t = ap (λ (x : Held). length (x .row)) r ∙ s .pre .rows (b .loop .i) in
     let e = sym (c .before .is .ensures) in
-    ⊎-elim (λ w. kept-more _ _ _ _ _ _ _ _ _ (b .loop .inv) l (s .pre .few) r (e ∙ not-true _ (w .0 .taken)) (w .1) (w .2))
+    ⊎-elim (λ w. kept-more _ _ _ _ _ _ _ _ _ (b .loop .inv) l (s .pre .few) t r (e ∙ not-true _ (w .0 .taken)) (w .1) (w .2))
     (λ w. kept-less _ _ _ _ _ _ _ _ _ (b .loop .inv) l r (e ∙ not-false _ (w .0 .left)) (w .1) (w .2)) (c .if1 .came)
 
 returns : tie.Need-returns Inv-loop μ-loop
@@ -35,7 +38,7 @@ returns c =
     let q = b .before .before .args .t1 in
     let w = b .loop .inv in
     let e : b .loop .i ≡ q .count = search needs in
-    (record { few = search needs; unused = w .unused }, rw e at (w .kept))
+    (record { few = search needs; long = w .long; rows = w .rows; unused = w .unused }, rw e at (w .kept))
 
 pub without-spec : {M : Type 1} → statement M
 without-spec =

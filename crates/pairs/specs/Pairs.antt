@@ -1,0 +1,32 @@
+-- Names of marks on flat numbers, and a run of pairs whose first are set to them.
+use mathlib.Core.Path.{_≡_}
+use mathlib.Core.List.{List, [], _∷_, reverse}
+use Prim.Native.Nat.{ℕ, zero, suc}
+use lib.ListN.{getD, set}
+use Rattle.frame.specs.Answer.{Answer, gives, refused}
+use Rattle.frame.specs.Mark.{MarkId}
+use Rattle.causality.specs.declared.MarkId.{MarkId as CodeId}
+use Rattle.pairs.specs.declared.Listed.{Listed}
+
+-- The pair at i.
+abbrev pub pairAt : Listed → ℕ → CodeId
+pairAt list i = record { desk = getD (list .desks) i 0; number = record { 0 = getD (list .numbers) i 0 } }
+
+-- The run with its first so many pairs set to those of the list.
+abbrev pub filled : List CodeId → Listed → ℕ → List CodeId
+filled xs list zero = xs
+filled xs list (suc k) = set (filled xs list k) k (pairAt list k)
+
+-- The first k names by falling index.
+abbrev pub namesDown : ℕ → List ℕ → List ℕ → List MarkId
+namesDown zero ds ns = []
+namesDown (suc k) ds ns = record { desk = getD ds k 0; number = getD ns k 0 } ∷ namesDown k ds ns
+
+-- The names of the list, by rising index.
+unfoldable pub marksOf : Listed → List MarkId
+marksOf list = reverse (namesDown (list .count) (list .desks) (list .numbers))
+
+-- A list of these names where the answer gives a value; an empty one beside a refusal.
+abbrev pub ListsIf : Answer ℕ → List MarkId → Listed → Type 0
+ListsIf (gives a) names list = marksOf list ≡ names
+ListsIf (refused c) names list = list .count ≡ 0

@@ -1,0 +1,234 @@
+-- Turns of the loops of Apart: a row of first followers is tested and noted, and marks apart are listed. n: how many desks. Assumes nothing.
+use Prim.Native.Nat.{_+_, _-_, _*_, _<_, _≤_, suc, zero, ℕ}
+use borrow.Author.Tests.{eq-eqb, eqb-false, eqb-true, le-leb, le-ltb, lt-leb, lt-ltb, ne-eqb}
+use lib.Dec.{T, eqb, leb, ltb, ltb→lt, nltb→le, not-T}
+use lib.ListN.{getD, length, length-set, replicate, set}
+use lib.Seq.{getD-set-other, getD-set-same}
+use mathlib.Core.Bool.{Bool, _&&_, _||_, and-false, cond, false, not, or-true, true}
+use mathlib.Core.List.{List, _∷_}
+use mathlib.Core.Logic.{_⊎_, inl, inr, ⊎-elim}
+use mathlib.Core.Path.{_∙_, _≡_, ap, refl, subst, sym}
+use native.Mathlib.Nat.{eq-or-lt-of-le}
+use native.Mathlib.Numerals.{add-one, sub-one}
+use native.Mathlib.Omega.{arith}
+use Rattle.frame.specs.declared.MarkBox.{MarkBox}
+use Rattle.frame.specs.Mark.{MarkId}
+use Rattle.causality.specs.Marks.{keep, same}
+use Rattle.causality.specs.State.{Mark, concurrent, ids, precedes}
+use Rattle.causality.proofs.Apart.{follower-cong, follower-new, followers, noted, reached-by-row, reachedBy, someFollower}
+use Rattle.causality.proofs.Logic.{T→eq, nT→eq, same-refl, same→eq, split}
+use Rattle.causality.proofs.Reach.{Sound}
+use Rattle.pairs.specs.declared.Listed.{Listed}
+use Rattle.pairs.specs.Pairs.{namesDown}
+use Rattle.rows.specs.View.{markAt, rowAt, rowFn, view}
+use Rattle.rows.proofs.Arrays.{sound-below}
+use Rattle.rows.proofs.Places.{has-at, not-before, precedes-there}
+use Rattle.rows.proofs.RowSteps.{not-leb}
+use Rattle.queries.proofs.PastRow.{PastTold, zeros}
+
+-- THE TEST
+
+-- A row of the stamps, from its base.
+abbrev pub from : List ℕ → ℕ → ℕ → ℕ
+from ss base d = getD ss (base + (d - 1)) 0
+
+module _ (first ss : List ℕ) (base : ℕ) where
+  pub test-more : (j : ℕ) → someFollower j (rowFn first) (from ss base) ≡ false → (getD first j 0 ≤ 0) ⊎ (getD ss (base + j) 0 < getD first j 0)
+      → someFollower (j + 1) (rowFn first) (from ss base) ≡ false
+  test-more j e (inl h) = rw (add-one j, sub-one (suc j), le-ltb 0 (getD first j 0) h, e) refl
+  test-more j e (inr h) = rw (add-one j, sub-one (suc j), lt-leb (getD first j 0) (getD ss (base + j) 0) h, and-false, e) refl
+
+  test-yes : (n j : ℕ) → j < n → 0 < getD first j 0 → getD first j 0 ≤ getD ss (base + j) 0 → someFollower n (rowFn first) (from ss base) ≡ true
+  test-yes zero j h p l = let z : ⊥ = omega arith in absurd z
+  test-yes (suc n) j h p l = ⊎-elim here (λ q. ap (λ (b : Bool). t || b) (test-yes n j q p l) ∙ or-true t) (eq-or-lt-of-le {n = j} {m = n} (omega arith))
+    where
+      t : Bool
+      t = ltb 0 (rowFn first (suc n)) && leb (rowFn first (suc n)) (from ss base (suc n))
+
+      here : j ≡ n → someFollower (suc n) (rowFn first) (from ss base) ≡ true
+      here q =
+          let p′ : 0 < getD first n 0 = subst (λ (i : ℕ). 0 < getD first i 0) q p in
+          let l′ : getD first n 0 ≤ getD ss (base + n) 0 = subst (λ (i : ℕ). getD first i 0 ≤ getD ss (base + i) 0) q l in
+          rw (sub-one (suc n), lt-ltb 0 (getD first n 0) p′, le-leb (getD first n 0) (getD ss (base + n) 0) l′) refl
+
+module _ (n : ℕ) (first ss : List ℕ) (p q : ℕ) where
+  -- The given mark itself; a mark whose stamp names a follower; another mark.
+  pub follows-own : p ≡ q → true ≡ (eqb p q || someFollower n (rowFn first) (rowAt n ss q))
+  follows-own e = sym (ap (λ (b : Bool). b || someFollower n (rowFn first) (rowAt n ss q)) (eq-eqb p q e))
+
+  pub follows-named : (j : ℕ) → j < n → 0 < getD first j 0 → getD first j 0 ≤ getD ss (q * n + j) 0 → true ≡ (eqb p q || someFollower n (rowFn first) (rowAt n ss q))
+  follows-named j h x y = sym (ap (λ (b : Bool). eqb p q || b) (test-yes first ss (q * n) n j h x y) ∙ or-true (eqb p q))
+
+  pub follows-none : (j : ℕ) → j ≡ n → (p ≡ q → ⊥) → someFollower j (rowFn first) (from ss (q * n)) ≡ false → false ≡ (eqb p q || someFollower n (rowFn first) (rowAt n ss q))
+  follows-none j e f x =
+      let y = ne-eqb p q f in
+      let z = subst (λ (k : ℕ). someFollower k (rowFn first) (from ss (q * n)) ≡ false) e x in
+      sym (λ i. y i || z i)
+
+-- THE NOTE
+
+module _ (first : List ℕ) (desk number : ℕ) (lo : 1 ≤ desk) where
+  abbrev name : MarkId
+  name = record { desk = desk; number = number }
+
+  pub note-first : desk ≤ length first → getD first (desk - 1) 0 ≡ 0 → (d : ℕ) → 1 ≤ d → rowFn (set first (desk - 1) number) d ≡ noted (rowFn first) (record { desk = desk; number = number }) d
+  note-first hi z d p = go (eqb d desk) refl
+    where
+      go : (b : Bool) → eqb d desk ≡ b → rowFn (set first (desk - 1) number) d ≡ elim (b && eqb (rowFn first d) 0) [ true ↦ number | false ↦ rowFn first d ]
+      go true e =
+          let q = eqb-true d desk e in
+          rw (q, eq-eqb (rowFn first desk) 0 z) (getD-set-same first (desk - 1) number 0 (omega arith))
+      go false e = let q : ¬ (d ≡ desk) = eqb-false d desk e in getD-set-other first (desk - 1) (d - 1) number 0 (λ x. omega arith)
+
+  pub note-later : (getD first (desk - 1) 0 ≡ 0 → ⊥) → (d : ℕ) → rowFn first d ≡ noted (rowFn first) (record { desk = desk; number = number }) d
+  note-later z d = go (eqb d desk) refl
+    where
+      go : (b : Bool) → eqb d desk ≡ b → rowFn first d ≡ elim (b && eqb (rowFn first d) 0) [ true ↦ number | false ↦ rowFn first d ]
+      go true e = rw (ne-eqb (rowFn first d) 0 (subst (λ (x : ℕ). rowFn first x ≡ 0 → ⊥) (sym (eqb-true d desk e)) z)) refl
+      go false e = refl
+
+-- THE LIST
+
+-- Names below a place keep where another is stored.
+names-kept : (ds ns : List ℕ) (k d m j : ℕ) → j ≤ k → namesDown j (set ds k d) (set ns k m) ≡ namesDown j ds ns
+names-kept ds ns k d m zero h = refl
+names-kept ds ns k d m (suc j) h =
+    let e = getD-set-other ds k j d 0 (λ x. omega arith) in
+    let f = getD-set-other ns k j m 0 (λ x. omega arith) in
+    let r = names-kept ds ns k d m j (omega arith) in
+    λ i. record { desk = e i; number = f i } ∷ r i
+
+names-more : (ds ns : List ℕ) (k d m : ℕ) → k < length ds → k < length ns → namesDown (k + 1) (set ds k d) (set ns k m) ≡ record { desk = d; number = m } ∷ namesDown k ds ns
+names-more ds ns k d m p q =
+    let e = getD-set-same ds k d 0 p in
+    let f = getD-set-same ns k m 0 q in
+    let r = names-kept ds ns k d m k (omega arith) in
+    rw (add-one k) (λ i. record { desk = e i; number = f i } ∷ r i)
+
+-- THE TURN
+
+module _ (n : ℕ) (ds ns ss : List ℕ) (count p : ℕ) where
+  abbrev given : MarkId
+  given = record { desk = getD ds p 0; number = getD ns p 0 }
+
+  -- Of the first q marks those apart from that at p are listed, and its first followers are noted.
+  pub record ApartTo (q : ℕ) (first : List ℕ) (list : Listed) : Type 0 where
+    pub turns : q ≤ count
+    pub small : list .count ≤ q
+    pub room : (count ≤ length (list .desks)) × (count ≤ length (list .numbers))
+    pub rows : (bs : ℕ → MarkBox) → Sound (view n count ds ns bs ss) → (d : ℕ) → 1 ≤ d → d ≤ n → rowFn first d ≡ followers given (view n q ds ns bs ss) d
+    pub names : (bs : ℕ → MarkBox) → Sound (view n count ds ns bs ss)
+        → namesDown (list .count) (list .desks) (list .numbers) ≡ keep (concurrent (view n count ds ns bs ss) given) (ids (view n q ds ns bs ss))
+
+  module _ (q : ℕ) (first : List ℕ) (list : Listed) (w : ApartTo q first list) (h : p < count) (l : q < count) where
+    abbrev test : Bool
+    test = eqb p q || someFollower n (rowFn first) (rowAt n ss q)
+
+    module _ (bs : ℕ → MarkBox) (s : Sound (view n count ds ns bs ss)) where
+      abbrev m : Mark
+      m = markAt n ds ns bs ss q
+
+      abbrev older : List Mark
+      older = view n q ds ns bs ss
+
+      -- Two places have one name only if they are one.
+      same-place : eqb p q ≡ same given (m .id)
+      same-place = elim (split (eqb p q)) [
+        | inl t ↦ T→eq (eqb p q) t ∙ sym (T→eq (same given (m .id)) (subst (λ (x : ℕ). T (same given ((markAt n ds ns bs ss x) .id))) (eqb-true p q (T→eq (eqb p q) t)) (same-refl given)))
+        | inr t ↦ let e : ¬ (p ≡ q) = eqb-false p q (nT→eq (eqb p q) t) in
+            nT→eq (eqb p q) t ∙ sym (nT→eq (same given (m .id)) (not-T (same given (m .id)) (λ u. let x = same→eq given (m .id) u in elim (split (ltb p q)) [
+              | inl v ↦ not-before n ds ns bs ss count q q s l (omega arith) (rw (← x) (has-at n ds ns bs ss q p (ltb→lt p q v)))
+              | inr v ↦ let y = nltb→le p q v in not-before n ds ns bs ss count p p s h (omega arith) (rw x (has-at n ds ns bs ss p q (omega arith)))
+            ])))
+      ]
+
+      -- What the code's test says.
+      test-is : test ≡ (same given (m .id) || reachedBy (followers given older) (m .stamp))
+      test-is =
+          let a = same-place in
+          let b = follower-cong n (rowFn first) (followers given older) (rowAt n ss q) (w .rows bs s) ∙ sym (reached-by-row n (followers given older) (rowAt n ss q)) in
+          λ i. a i || b i
+
+      apart-is : (past : List ℕ) → PastTold n ds ns bs ss count p past → concurrent (view n count ds ns bs ss) given (m .id) ≡ (not test && ltb (rowFn past (getD ds q 0)) (getD ns q 0))
+      unfolding concurrent view
+      apart-is past told = (λ i. not (same given (m .id)) && (not (precedes (view n count ds ns bs ss) given (m .id)) && (ap not (told (m .id) (has-at n ds ns bs ss count q l)) ∙ not-leb (getD ns q 0) (rowFn past (getD ds q 0))) i))
+          ∙ either (same given (m .id)) (precedes (view n count ds ns bs ss) given (m .id)) (ltb (rowFn past (getD ds q 0)) (getD ns q 0))
+          ∙ ap (λ (b : Bool). not b && ltb (rowFn past (getD ds q 0)) (getD ns q 0))
+          (ap (λ (b : Bool). same given (m .id) || b) (precedes-there n ds ns bs ss count q s l given) ∙ follower-new m older (sound-below n count ds ns bs ss s (suc q) l) given ∙ sym test-is)
+        where
+          either : (a b c : Bool) → (not a && (not b && c)) ≡ (not (a || b) && c)
+          either true b c = refl
+          either false b c = refl
+
+    step-rows : (first′ : List ℕ) (b : Bool) → test ≡ b
+        → ((d : ℕ) → 1 ≤ d → d ≤ n → rowFn first′ d ≡ elim b [ true ↦ noted (rowFn first) (record { desk = getD ds q 0; number = getD ns q 0 }) d | false ↦ rowFn first d ])
+        → (bs : ℕ → MarkBox) → Sound (view n count ds ns bs ss) → (d : ℕ) → 1 ≤ d → d ≤ n → rowFn first′ d ≡ followers given (view n (q + 1) ds ns bs ss) d
+    unfolding view
+    step-rows first′ b e f bs s d lo hi = f d lo hi ∙ go b e ∙ ap (λ (k : ℕ). followers given (view n k ds ns bs ss) d) (sym (add-one q))
+      where
+        g : rowFn first d ≡ followers given (view n q ds ns bs ss) d
+        g = w .rows bs s d lo hi
+
+        go : (b : Bool) → test ≡ b → elim b [ true ↦ noted (rowFn first) (record { desk = getD ds q 0; number = getD ns q 0 }) d | false ↦ rowFn first d ] ≡ followers given (view n (suc q) ds ns bs ss) d
+        go true e = rw (sym (test-is bs s) ∙ e, followers) (λ i. elim (eqb d (getD ds q 0) && eqb (g i) 0) [ true ↦ getD ns q 0 | false ↦ g i ])
+        go false e = rw (sym (test-is bs s) ∙ e, followers) g
+
+    module _ (past : List ℕ) (told : (bs : ℕ → MarkBox) → Sound (view n count ds ns bs ss) → PastTold n ds ns bs ss count p past) where
+      step-names : (b : Bool) → (not test && ltb (rowFn past (getD ds q 0)) (getD ns q 0)) ≡ b → (bs : ℕ → MarkBox) → Sound (view n count ds ns bs ss)
+          → let P = concurrent (view n count ds ns bs ss) given in
+          keep P (ids (view n (q + 1) ds ns bs ss)) ≡ cond b (record { desk = getD ds q 0; number = getD ns q 0 } ∷ keep P (ids (view n q ds ns bs ss))) (keep P (ids (view n q ds ns bs ss)))
+      unfolding view
+      step-names b e bs s =
+          let P = concurrent (view n count ds ns bs ss) given in
+          let x = apart-is bs s past (told bs s) ∙ e in
+          ap (λ (k : ℕ). keep P (ids (view n k ds ns bs ss))) (add-one q) ∙ (λ i. cond (x i) (record { desk = getD ds q 0; number = getD ns q 0 } ∷ keep P (ids (view n q ds ns bs ss))) (keep P (ids (view n q ds ns bs ss))))
+
+      -- A mark that is the given one or follows it is noted.
+      pub turn-follows : (eqb p q || someFollower n (rowFn first) (rowAt n ss q)) ≡ true → (first′ : List ℕ)
+          → ((d : ℕ) → 1 ≤ d → d ≤ n → rowFn first′ d ≡ noted (rowFn first) (record { desk = getD ds q 0; number = getD ns q 0 }) d) → ApartTo (q + 1) first′ list
+      turn-follows e first′ f = record {
+        turns = omega arith;
+        small = let x = w .small in omega arith;
+        room = w .room;
+        rows = step-rows first′ true e f;
+        names = λ bs s. w .names bs s ∙ sym (step-names false (ap (λ (b : Bool). not b && ltb (rowFn past (getD ds q 0)) (getD ns q 0)) e) bs s);
+      }
+
+      -- Another mark of the past of the given one is passed.
+      pub turn-past : (eqb p q || someFollower n (rowFn first) (rowAt n ss q)) ≡ false → getD ns q 0 ≤ rowFn past (getD ds q 0) → ApartTo (q + 1) first list
+      turn-past e u = record {
+        turns = omega arith;
+        small = let x = w .small in omega arith;
+        room = w .room;
+        rows = step-rows first false e (λ d lo hi. refl);
+        names = λ bs s. w .names bs s ∙ sym (step-names false (let v = le-ltb (rowFn past (getD ds q 0)) (getD ns q 0) u in λ i. not (e i) && v i) bs s);
+      }
+
+      -- One that is not of it is listed.
+      pub turn-apart : (eqb p q || someFollower n (rowFn first) (rowAt n ss q)) ≡ false → rowFn past (getD ds q 0) < getD ns q 0
+          → ApartTo (q + 1) first (record { desks = set (list .desks) (list .count) (getD ds q 0); numbers = set (list .numbers) (list .count) (getD ns q 0); count = list .count + 1 })
+      turn-apart e u = record {
+        turns = omega arith;
+        small = let z = w .small in omega arith;
+        room = (rw length-set (w .room .0), rw length-set (w .room .1));
+        rows = step-rows first false e (λ d lo hi. refl);
+        names = λ bs s. names-more (list .desks) (list .numbers) (list .count) (getD ds q 0) (getD ns q 0) (within (w .room .0)) (within (w .room .1)) ∙ ap (λ (x : List MarkId). record { desk = getD ds q 0; number = getD ns q 0 } ∷ x) (w .names bs s)
+            ∙ sym (step-names true (let v = lt-ltb (rowFn past (getD ds q 0)) (getD ns q 0) u in λ i. not (e i) && v i) bs s);
+      }
+        where
+          within : {k : ℕ} → count ≤ k → list .count < k
+          within h = let x = w .small in omega arith
+
+  -- At the start nothing is passed; at the end all marks are.
+  pub apart-none : (k : ℕ) (list : Listed) → list .count ≡ 0 → count ≤ length (list .desks) → count ≤ length (list .numbers) → ApartTo 0 (replicate k 0) list
+  unfolding view
+  apart-none k list e x y = record { turns = omega arith; small = omega arith; room = (x, y); rows = λ bs s d lo hi. zeros k (d - 1); names = λ bs s. rw e refl }
+
+  pub apart-all : (q : ℕ) (first : List ℕ) (list : Listed) → ApartTo q first list → count ≤ q
+      → (list .count ≤ count) × ((bs : ℕ → MarkBox) → Sound (view n count ds ns bs ss)
+      → namesDown (list .count) (list .desks) (list .numbers) ≡ keep (concurrent (view n count ds ns bs ss) ((markAt n ds ns bs ss p) .id)) (ids (view n count ds ns bs ss)))
+  apart-all q first list w h =
+      let t = w .turns in
+      let x = w .small in
+      let e : q ≡ count = omega arith in
+      (omega arith, λ bs s. w .names bs s ∙ ap (λ (k : ℕ). keep (concurrent (view n count ds ns bs ss) given) (ids (view n k ds ns bs ss))) e)
