@@ -1,0 +1,2 @@
+-- The modules of the laws and proofs.
+pub mod Lending
