@@ -1,0 +1,38 @@
+//! `draw`: a script's history as an SVG picture.
+mod layout;
+mod record;
+mod svg;
+
+use std::collections::BTreeSet;
+use std::io::BufRead;
+
+use kaungimewe::{MarkId, PLACES};
+
+use crate::room::Room;
+use crate::script::each_call;
+use record::Record;
+
+/// The picture of a script, with the marks concurrent with `apart` highlighted.
+pub fn draw(input: impl BufRead, apart: Option<MarkId>) -> Result<String, String> {
+    let mut room = Room::default();
+    let mut record = Record::default();
+    each_call(input, |call| {
+        let answer = room.call(&call)?;
+        record.note(&call, answer.is_ok(), &room);
+        Ok(())
+    })?;
+    let pairs = apart.map(|mark| Ok::<_, String>((mark, concurrent(&room, mark)?))).transpose()?;
+    Ok(svg::picture(&layout::lay_out(record), pairs))
+}
+
+/// The marks concurrent with a given one, at any desk that has executed it.
+fn concurrent(room: &Room, mark: MarkId) -> Result<BTreeSet<MarkId>, String> {
+    let mut found = None;
+    for desk in room.desks() {
+        let mut names = [MarkId::default(); PLACES];
+        if let Ok(count) = desk.apart(mark, &mut names) {
+            found.get_or_insert_with(BTreeSet::new).extend(&names[..count]);
+        }
+    }
+    found.ok_or_else(|| format!("{mark} is executed at no desk of this script"))
+}

@@ -1,0 +1,69 @@
+//! What `--help` says.
+
+pub const TOOL: &str = "\
+kaungimewe: desks of the proved causality engine, at a terminal
+
+  ./kaungimewe run [--explain] [FILE]              a script of calls, one answer a line
+  ./kaungimewe draw [--apart A.N] [FILE] > SVG     the same script as a picture
+  ./kaungimewe bench [--rounds N] [--seed S]       the engine's times beside those of two others
+
+FILE is a script; without it, or with -, the script is read from standard input.
+`./kaungimewe run --help` says what a script is, `draw --help` and `bench --help` what they show.
+Exit status: 0, or 2 where the command or a line of the script is wrong.
+";
+
+pub const RUN: &str = "\
+./kaungimewe run [--explain] [FILE]
+
+Reads one call a line from FILE, or from standard input, and prints one answer a line. Blank lines are skipped, and so is
+what stands behind a #.
+
+  new D                                  desk D                     | refused 1
+  mark D START END LOW HIGH [LENT]       marked D.N SIZE HEX        | refused C
+  receive D HEX                          known | waiting | executed K F | refused C
+  hand D A.N                             as receive, with the frame that this script's mark A.N wrote;
+                                         unmade where there is none
+  relate D A.N B.M                       same | before | after | concurrent | refused 12
+  apart D A.N [ROOM]                     apart COUNT A.N ..         | refused C
+  first D A.N E                          first N                    | refused C
+  frame D A.N [LENT]                     frame SIZE HEX             | refused C
+  list D                                 executed A.N ..            by place
+  held D                                 waiting A.N ..             by desk, then number
+  read HEX                               fields D N START END LOW HIGH COUNT A.N .. | refused C
+  write D N START END LOW HIGH ENTRIESHEX|- [LENT]
+                                         written SIZE HEX           | refused C
+
+D and E are desks, 1 to 16. A.N is the N-th mark made at desk A. START and END are milliseconds, LOW and HIGH hertz, 32 bits
+each. LENT is how many bytes the call is lent to write to (the largest frame, 71, if left out), ROOM how many names (512).
+K counts the marks executed by the call, F those dropped for a false stamp.
+Words are separated by spaces, numbers are decimal, bytes are hex (- for no bytes). `new D` of a desk that is there gives an
+empty desk in its place.
+
+C is the number of the refusal; with --explain its condition stands behind it:
+
+";
+
+pub const RUN_END: &str = "
+A line that is none of these stops the run with exit status 2 and `line N: what is wrong` on standard error; the output
+before it stands.
+";
+
+pub const DRAW: &str = "\
+./kaungimewe draw [--apart A.N] [FILE] > history.svg
+
+Draws the script that `run` answers as an SVG picture: a line for each desk, the marks executed there as boxes from left to
+right in their order, the waiting ones hollow behind them. A bold box is a mark where it was made; an arrow runs to it from
+each entry of its stamp. With --apart, mark A.N is framed, and the marks concurrent with it are hatched and joined to it by
+broken lines. Point at a box for its times, frequencies and stamp.
+";
+
+pub const BENCH: &str = "\
+./kaungimewe bench [--rounds N] [--seed S]
+
+Makes one history (500 marks, 16 desks) by a seeded generator, and takes every call through it with the proved engine and
+with two others in the same run:
+  (a) the same plan in plain Rust, by reference, with full counts kept per mark;
+  (b) a BTreeMap vector clock for each mark, looked up by name and compared by partial_cmp.
+Prints medians of N rounds (5 if left out) as times a call and as ratios, their growth from 125 to 250 to 500 marks, and the
+bytes on the wire beside full counts. Times depend on the machine and its load; the ratios are taken in one run.
+";

@@ -1,0 +1,143 @@
+//! The desks of a script, the frames that they wrote, and what they answer.
+use std::collections::BTreeMap;
+use std::fmt::Write;
+
+use kaungimewe::{reader, writer, Desk, Fields, Mark, MarkBox, MarkId, Reception, Refusal, Relation};
+
+use crate::script::Call;
+use crate::words::hex;
+
+/// The desks of a script, and the frames that its marks wrote.
+#[derive(Default)]
+pub struct Room {
+    desks: BTreeMap<u8, Desk>,
+    frames: BTreeMap<MarkId, Vec<u8>>,
+}
+
+/// What a call answers: a line of words, or a refusal.
+pub type Answer = Result<String, Refusal>;
+
+impl Room {
+    /// A desk that New has made.
+    pub fn desk(&self, desk: u8) -> Result<&Desk, String> {
+        self.desks.get(&desk).ok_or_else(|| "there is no such desk: `new` has not made it".to_string())
+    }
+
+    /// The desks, by number.
+    pub fn desks(&self) -> impl Iterator<Item = &Desk> {
+        self.desks.values()
+    }
+
+    fn desk_mut(&mut self, desk: u8) -> Result<&mut Desk, String> {
+        self.desk(desk)?;
+        Ok(self.desks.get_mut(&desk).expect("it is there"))
+    }
+
+    /// Makes the call. What stands in no call's answer, as a desk that is not there, is an error of the script.
+    pub fn call(&mut self, call: &Call) -> Result<Answer, String> {
+        Ok(match call {
+            Call::New { desk } => self.new_desk(*desk),
+            Call::Mark { desk, extent, lent } => self.mark(*desk, *extent, *lent)?,
+            Call::Receive { desk, frame } => received(self.desk_mut(*desk)?, frame),
+            Call::Hand { desk, mark } => self.hand(*desk, *mark)?,
+            Call::Relate { desk, a, b } => self.desk(*desk)?.relate(*a, *b).map(relation),
+            Call::Apart { desk, mark, room } => apart(self.desk(*desk)?, *mark, *room),
+            Call::First { desk, mark, of } => self.desk(*desk)?.first_apart(*mark, *of).map(|n| format!("first {n}")),
+            Call::Frame { desk, mark, lent } => frame_again(self.desk(*desk)?, *mark, *lent),
+            Call::List { desk } => Ok(names("executed", ids(self.desk(*desk)?.executed()))),
+            Call::Held { desk } => Ok(held(self.desk(*desk)?)),
+            Call::Read { frame } => read(frame),
+            Call::Write { mark, extent, entries, lent } => write(Fields { id: *mark, extent: *extent, entries }, *lent),
+        })
+    }
+
+    fn new_desk(&mut self, desk: u8) -> Answer {
+        self.desks.insert(desk, Desk::new(desk)?);
+        Ok(format!("desk {desk}"))
+    }
+
+    fn mark(&mut self, desk: u8, extent: MarkBox, lent: usize) -> Result<Answer, String> {
+        let mut out = vec![0; lent];
+        let made = match self.desk_mut(desk)?.mark(extent, &mut out) {
+            Ok(made) => made,
+            Err(refusal) => return Ok(Err(refusal)),
+        };
+        out.truncate(made.size);
+        let id = MarkId::new(desk, made.number);
+        let answer = format!("marked {id} {} {}", made.size, hex(&out));
+        self.frames.insert(id, out);
+        Ok(Ok(answer))
+    }
+
+    fn hand(&mut self, desk: u8, mark: MarkId) -> Result<Answer, String> {
+        self.desk(desk)?;
+        let Some(frame) = self.frames.get(&mark) else {
+            return Ok(Ok("unmade".to_string()));
+        };
+        let desk = self.desks.get_mut(&desk).expect("it is there");
+        Ok(received(desk, frame))
+    }
+}
+
+fn received(desk: &mut Desk, frame: &[u8]) -> Answer {
+    Ok(match desk.receive(frame)? {
+        Reception::Known => "known".to_string(),
+        Reception::Waiting => "waiting".to_string(),
+        Reception::Executed { executed, dropped } => format!("executed {executed} {dropped}"),
+    })
+}
+
+fn relation(relation: Relation) -> String {
+    let word = match relation {
+        Relation::Same => "same",
+        Relation::Before => "before",
+        Relation::After => "after",
+        Relation::Concurrent => "concurrent",
+    };
+    word.to_string()
+}
+
+fn apart(desk: &Desk, mark: MarkId, room: usize) -> Answer {
+    let mut out = vec![MarkId::default(); room];
+    let count = desk.apart(mark, &mut out)?;
+    out.truncate(count);
+    Ok(names(&format!("apart {count}"), out))
+}
+
+fn frame_again(desk: &Desk, mark: MarkId, lent: usize) -> Answer {
+    let mut out = vec![0; lent];
+    let size = desk.frame_again(mark, &mut out)?;
+    Ok(format!("frame {size} {}", hex(&out[..size])))
+}
+
+fn held(desk: &Desk) -> String {
+    let mut waiting = ids(desk.waiting());
+    waiting.sort();
+    names("waiting", waiting)
+}
+
+fn read(frame: &[u8]) -> Answer {
+    let fields = reader(frame)?;
+    let MarkBox { start, end, low, high } = fields.extent;
+    let (id, stamp) = (fields.id, fields.stamp());
+    let head = format!("fields {} {} {start} {end} {low} {high} {}", id.desk, id.number, stamp.len());
+    Ok(names(&head, stamp))
+}
+
+fn write(fields: Fields<'_>, lent: usize) -> Answer {
+    let mut out = vec![0; lent];
+    let size = writer(fields, &mut out)?;
+    Ok(format!("written {size} {}", hex(&out[..size])))
+}
+
+fn ids(marks: Vec<Mark>) -> Vec<MarkId> {
+    marks.into_iter().map(|mark| mark.id).collect()
+}
+
+/// A word and names behind it.
+fn names(head: &str, names: Vec<MarkId>) -> String {
+    names.iter().fold(head.to_string(), |mut line, name| {
+        write!(line, " {name}").expect("writing to a string");
+        line
+    })
+}

@@ -1,0 +1,161 @@
+//! A desk of the proved engine.
+use std::fmt;
+
+use crate::abi;
+use crate::{Mark, MarkBox, MarkId, Marked, Reception, Refusal, Relation};
+
+/// A desk: it numbers the marks made there, executes those of other desks in causal order, and relates them.
+///
+/// Every call is the proved engine's. A desk comes only from [`Desk::new`] and the calls; it can be neither copied nor
+/// altered otherwise, so what is proved of the calls holds of every value of this type.
+///
+/// A call needs some 400 KiB of stack; Rust's threads have 2 MiB if not told otherwise.
+pub struct Desk {
+    raw: Box<abi::Desk>,
+}
+
+/// What a desk was at some moment, to compare with: equal if every count, mark and stamp is.
+///
+/// Nothing makes a desk of it.
+#[derive(Clone, PartialEq, Eq)]
+pub struct Snapshot {
+    raw: Box<abi::Desk>,
+}
+
+impl Desk {
+    /// New: an empty desk of that number. Refuses with 1.
+    pub fn new(own: u8) -> Result<Desk, Refusal> {
+        // SAFETY: the call asks for nothing.
+        let answer = unsafe { abi::kaungimewe_new(own) };
+        Refusal::check(answer.refusal)?;
+        Ok(Desk { raw: Box::new(answer.desk) })
+    }
+
+    /// Mark: the box becomes this desk's next mark, stamped with the heads and executed. Its frame is written to the
+    /// first of the lent bytes; later bytes keep their values. Refuses with 5, 9 and 13.
+    pub fn mark(&mut self, extent: MarkBox, out: &mut [u8]) -> Result<Marked, Refusal> {
+        let MarkBox { start, end, low, high } = extent;
+        // SAFETY: the desk came from the calls; the pointer is good for the lent length.
+        let answer = unsafe { abi::kaungimewe_mark(*self.raw, start, end, low, high, out.as_mut_ptr(), out.len()) };
+        *self.raw = answer.desk;
+        Refusal::check(answer.refusal)?;
+        Ok(Marked { number: answer.number, size: answer.size })
+    }
+
+    /// Receive: the frame's mark is known, set waiting or executed; an executed mark releases the waiting ones that
+    /// have become ready. Refuses with 2 to 11.
+    pub fn receive(&mut self, frame: &[u8]) -> Result<Reception, Refusal> {
+        // SAFETY: the desk came from the calls; the pointer is good for the frame's length.
+        let answer = unsafe { abi::kaungimewe_receive(*self.raw, frame.as_ptr(), frame.len()) };
+        *self.raw = answer.desk;
+        Refusal::check(answer.refusal)?;
+        Ok(match answer.kind {
+            1 => Reception::Known,
+            2 => Reception::Waiting,
+            _ => Reception::Executed { executed: answer.executed, dropped: answer.dropped },
+        })
+    }
+
+    /// Relate: which of two executed marks was made in knowledge of the other. Refuses with 12.
+    pub fn relate(&self, a: MarkId, b: MarkId) -> Result<Relation, Refusal> {
+        let abi::Desk { desks, numbers, stamps, count, .. } = &*self.raw;
+        // SAFETY: the arrays and their count are those of a desk that came from the calls.
+        let answer =
+            unsafe { abi::kaungimewe_relate(desks, numbers, stamps, *count, a.desk, a.number, b.desk, b.number) };
+        Refusal::check(answer.refusal)?;
+        Ok(match answer.relation {
+            1 => Relation::Same,
+            2 => Relation::Before,
+            3 => Relation::After,
+            _ => Relation::Concurrent,
+        })
+    }
+
+    /// Apart: the executed marks concurrent with a given one, by place, to the first of the lent names; later ones keep
+    /// their values. Answers their count. Refuses with 12 and 13.
+    pub fn apart(&self, a: MarkId, out: &mut [MarkId]) -> Result<usize, Refusal> {
+        let abi::Desk { desks, numbers, stamps, count, .. } = &*self.raw;
+        // SAFETY: the arrays and their count are those of a desk that came from the calls.
+        let answer = unsafe { abi::kaungimewe_apart(desks, numbers, stamps, *count, a.desk, a.number, out.len()) };
+        Refusal::check(answer.refusal)?;
+        for (i, name) in out[..answer.count].iter_mut().enumerate() {
+            *name = MarkId::new(answer.desks[i], answer.numbers[i]);
+        }
+        Ok(answer.count)
+    }
+
+    /// First apart: the lowest number of that desk's marks executed here before the mark and concurrent with it; 0 if
+    /// none. Refuses with 1 and 12.
+    pub fn first_apart(&self, a: MarkId, desk: u8) -> Result<u16, Refusal> {
+        let abi::Desk { desks, numbers, stamps, count, .. } = &*self.raw;
+        // SAFETY: the arrays and their count are those of a desk that came from the calls.
+        let answer = unsafe { abi::kaungimewe_first_apart(desks, numbers, stamps, *count, a.desk, a.number, desk) };
+        Refusal::check(answer.refusal)?;
+        Ok(answer.number)
+    }
+
+    /// Frame again: the frame of an executed mark, to the first of the lent bytes; later bytes keep their values.
+    /// Answers its size. Refuses with 12 and 13.
+    pub fn frame_again(&self, a: MarkId, out: &mut [u8]) -> Result<usize, Refusal> {
+        let abi::Desk { desks, numbers, boxes, stamps, count, .. } = &*self.raw;
+        let (lent, room) = (out.as_mut_ptr(), out.len());
+        // SAFETY: the arrays and their count are those of a desk that came from the calls; the pointer is good for the
+        // lent length, and `out` overlaps nothing.
+        let answer =
+            unsafe { abi::kaungimewe_frame_again(desks, numbers, boxes, stamps, *count, a.desk, a.number, lent, room) };
+        Refusal::check(answer.refusal)?;
+        Ok(answer.size)
+    }
+
+    /// The desk's own number.
+    pub fn number(&self) -> u8 {
+        self.raw.own
+    }
+
+    /// How many marks are executed here.
+    pub fn count(&self) -> usize {
+        self.raw.count
+    }
+
+    /// The executed marks, by place.
+    pub fn executed(&self) -> Vec<Mark> {
+        (0..self.raw.count).map(|place| self.mark_at(place)).collect()
+    }
+
+    /// The waiting marks, in order of arrival.
+    pub fn waiting(&self) -> Vec<Mark> {
+        let queue = &self.raw.queue;
+        let marks = queue.held[..queue.count].iter();
+        marks.map(|h| mark_of(MarkId::new(h.desk, h.number), h.extent, &h.row)).collect()
+    }
+
+    /// What the desk is now, to compare with later.
+    pub fn snapshot(&self) -> Snapshot {
+        Snapshot { raw: self.raw.clone() }
+    }
+
+    fn mark_at(&self, place: usize) -> Mark {
+        let raw = &self.raw;
+        let id = MarkId::new(raw.desks[place], raw.numbers[place]);
+        let values = &raw.boxes[place * abi::BOX..][..abi::BOX];
+        let extent = MarkBox::new(values[0], values[1], values[2], values[3]);
+        mark_of(id, extent, &raw.stamps[place * abi::DESKS..][..abi::DESKS])
+    }
+}
+
+/// The mark whose stamp is given as a row: at index d − 1 the number that it names of desk d, or 0.
+fn mark_of(id: MarkId, extent: MarkBox, row: &[u16]) -> Mark {
+    let entries = (1..).zip(row).filter(|(_, &number)| number > 0);
+    let stamp = entries.map(|(desk, &number)| MarkId::new(desk, number)).collect();
+    Mark { id, extent, stamp }
+}
+
+impl fmt::Debug for Desk {
+    fn fmt(&self, f: &mut fmt::Formatter<'_>) -> fmt::Result {
+        f.debug_struct("Desk")
+            .field("number", &self.number())
+            .field("executed", &self.executed())
+            .field("waiting", &self.waiting())
+            .finish()
+    }
+}

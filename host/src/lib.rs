@@ -1,0 +1,50 @@
+//! Kaungimewe: one desk's causality engine for a shared spectrogram notebook, proved.
+//!
+//! Observers draw boxes around whale calls. A box drawn in knowledge of another is no independent sighting. Each
+//! observer works at a [`Desk`], which numbers the marks made there, stamps each with its direct predecessors (direct
+//! causal vectors), executes the marks of other desks in causal order, and says of any two marks which was made in
+//! knowledge of which.
+//!
+//! ```
+//! use kaungimewe::{Desk, MarkBox, MarkId, Reception, Relation, LARGEST_FRAME};
+//!
+//! # fn main() -> Result<(), kaungimewe::Refusal> {
+//! let mut ann = Desk::new(1)?;
+//! let mut bob = Desk::new(2)?;
+//!
+//! let mut frame = [0; LARGEST_FRAME];
+//! let made = ann.mark(MarkBox::new(1_000, 1_500, 100, 400), &mut frame)?;
+//! let answer = bob.receive(&frame[..made.size])?;
+//! assert_eq!(answer, Reception::Executed { executed: 1, dropped: 0 });
+//!
+//! bob.mark(MarkBox::new(1_100, 1_400, 120, 380), &mut frame)?;
+//! let (first, second) = (MarkId::new(1, 1), MarkId::new(2, 1));
+//! assert_eq!(bob.relate(first, second)?, Relation::Before);
+//! # Ok(())
+//! # }
+//! ```
+//!
+//! The calls are functions of the proved crate `abi`, linked as a static library; this crate adds types and no logic.
+//! Terms are those of document 01, the customer's text.
+#![deny(missing_docs)]
+
+mod abi;
+mod desk;
+mod frame;
+mod marks;
+pub mod peers;
+mod refusal;
+
+pub use desk::{Desk, Snapshot};
+pub use frame::{reader, writer, Fields, HEAD, LARGEST_FRAME};
+pub use marks::{Mark, MarkBox, MarkId, Marked, Reception, Relation};
+pub use refusal::Refusal;
+
+/// Desks are numbered 1 to 16; a stamp has at most so many entries.
+pub const DESKS: u8 = abi::DESKS as u8;
+
+/// A mark's number is 1 to 512; so many marks are executed or waiting at a desk at most.
+pub const PLACES: usize = abi::PLACES;
+
+/// Waiting marks at most.
+pub const WAITING: usize = abi::WAITING;

@@ -1,0 +1,94 @@
+//! Marks and what the calls answer of them.
+use std::fmt;
+
+/// The name of a mark: d.n is the n-th mark made at desk d.
+#[derive(Clone, Copy, Debug, Default, PartialEq, Eq, PartialOrd, Ord, Hash)]
+pub struct MarkId {
+    /// The desk at which the mark was made, 1 to 16.
+    pub desk: u8,
+    /// Its number there, 1 to 512.
+    pub number: u16,
+}
+
+impl MarkId {
+    /// Mark `desk.number`.
+    pub fn new(desk: u8, number: u16) -> MarkId {
+        MarkId { desk, number }
+    }
+}
+
+impl fmt::Display for MarkId {
+    fn fmt(&self, f: &mut fmt::Formatter<'_>) -> fmt::Result {
+        write!(f, "{}.{}", self.desk, self.number)
+    }
+}
+
+/// A mark's box. The box rule: start < end and low < high.
+#[repr(C)]
+#[derive(Clone, Copy, Debug, Default, PartialEq, Eq, PartialOrd, Ord, Hash)]
+pub struct MarkBox {
+    /// Start in milliseconds.
+    pub start: u32,
+    /// End in milliseconds.
+    pub end: u32,
+    /// Lowest frequency in hertz.
+    pub low: u32,
+    /// Highest frequency in hertz.
+    pub high: u32,
+}
+
+impl MarkBox {
+    /// The box from `start` to `end` milliseconds and from `low` to `high` hertz.
+    pub fn new(start: u32, end: u32, low: u32, high: u32) -> MarkBox {
+        MarkBox { start, end, low, high }
+    }
+}
+
+/// A mark with its box and its stamp, which names its direct predecessors by rising desk.
+#[derive(Clone, Debug, PartialEq, Eq, PartialOrd, Ord, Hash)]
+pub struct Mark {
+    /// Its name.
+    pub id: MarkId,
+    /// Its box.
+    pub extent: MarkBox,
+    /// The entries of its stamp.
+    pub stamp: Vec<MarkId>,
+}
+
+/// What Mark answers.
+#[derive(Clone, Copy, Debug, PartialEq, Eq)]
+pub struct Marked {
+    /// The number of the new mark at its desk.
+    pub number: u16,
+    /// The size of its frame: so many of the lent bytes were written.
+    pub size: usize,
+}
+
+/// What Receive answers.
+#[derive(Clone, Copy, Debug, PartialEq, Eq)]
+pub enum Reception {
+    /// The mark was executed or waiting here, with the same bytes.
+    Known,
+    /// A mark that it follows is not executed here yet.
+    Waiting,
+    /// The mark was executed, and waiting marks that had become ready were released.
+    Executed {
+        /// How many marks the call executed, the received one among them.
+        executed: u16,
+        /// How many released marks were dropped, since their stamps were false.
+        dropped: u16,
+    },
+}
+
+/// What Relate answers of two marks, said of the first.
+#[derive(Clone, Copy, Debug, PartialEq, Eq)]
+pub enum Relation {
+    /// It is the second mark.
+    Same,
+    /// It precedes the second mark.
+    Before,
+    /// The second mark precedes it.
+    After,
+    /// Neither precedes the other: they were made without sight of each other.
+    Concurrent,
+}

@@ -1,0 +1,151 @@
+//! The calls of the engine by reference.
+use super::{false_stamp, frame, ready, ByReference, Held, Row};
+use crate::peers::{Engine, Stamped};
+use crate::{Mark, MarkBox, MarkId, Marked, Reception, Refusal, Relation, DESKS, PLACES, WAITING};
+
+impl ByReference {
+    fn full(&self) -> bool {
+        self.desks.len() + self.waiting.len() == PLACES
+    }
+
+    /// 7, by the tally.
+    fn unmade(&self, tally: &Row, mark: &Held) -> bool {
+        let own = usize::from(self.own) - 1;
+        (mark.desk == self.own && tally[own] < mark.number) || tally[own] < mark.row[own]
+    }
+
+    /// Whether a mark of this name that is here is the very mark; none if there is none.
+    fn known(&self, mark: &Held) -> Option<bool> {
+        if let Some(p) = self.find(mark.desk, mark.number) {
+            return Some(self.boxes[p] == mark.extent && self.stamps[p] == mark.row);
+        }
+        let waiting = self.waiting.iter().find(|w| w.desk == mark.desk && w.number == mark.number);
+        waiting.map(|w| w == mark)
+    }
+
+    fn place(&self, id: MarkId) -> Result<usize, Refusal> {
+        self.find(id.desk, id.number).ok_or(Refusal::NotExecuted)
+    }
+
+    fn name(&self, place: usize) -> MarkId {
+        MarkId::new(self.desks[place], self.numbers[place])
+    }
+
+    fn held_at(&self, p: usize) -> Held {
+        Held { desk: self.desks[p], number: self.numbers[p], extent: self.boxes[p], row: self.stamps[p] }
+    }
+}
+
+/// A mark with its stamp as entries.
+fn mark_of(held: &Held) -> Mark {
+    let named = (1..).zip(&held.row).filter(|(_, &n)| n > 0);
+    let stamp = named.map(|(desk, &number)| MarkId::new(desk, number)).collect();
+    Mark { id: MarkId::new(held.desk, held.number), extent: held.extent, stamp }
+}
+
+impl Engine for ByReference {
+    fn new(own: u8) -> Result<Self, Refusal> {
+        if !(1..=DESKS).contains(&own) {
+            return Err(Refusal::DeskRange);
+        }
+        Ok(ByReference::empty(own))
+    }
+
+    fn mark(&mut self, extent: MarkBox, out: &mut [u8]) -> Result<Marked, Refusal> {
+        if !frame::box_rule(&extent) {
+            return Err(Refusal::FieldRange);
+        }
+        if self.full() {
+            return Err(Refusal::DeskFull);
+        }
+        let tally = self.tally();
+        let number = tally[usize::from(self.own) - 1] + 1;
+        let mark = Held { desk: self.own, number, extent, row: self.heads(&tally) };
+        let size = frame::write(&mark, out)?;
+        self.execute(&mark, tally);
+        Ok(Marked { number, size })
+    }
+
+    fn receive(&mut self, frame: &[u8]) -> Result<Reception, Refusal> {
+        let mark = frame::read(frame)?;
+        let tally = self.tally();
+        if self.unmade(&tally, &mark) {
+            return Err(Refusal::NotYetMade);
+        }
+        match self.known(&mark) {
+            Some(true) => return Ok(Reception::Known),
+            Some(false) => return Err(Refusal::OtherBytes),
+            None => {}
+        }
+        if self.full() {
+            return Err(Refusal::DeskFull);
+        }
+        if !ready(&tally, &mark) {
+            if self.waiting.len() == WAITING {
+                return Err(Refusal::WaitingFull);
+            }
+            self.waiting.push(mark);
+            return Ok(Reception::Waiting);
+        }
+        let below = self.below(&mark.row);
+        if false_stamp(&mark, &below) {
+            return Err(Refusal::FalseStamp);
+        }
+        self.execute(&mark, below);
+        let (released, dropped) = self.release();
+        Ok(Reception::Executed { executed: 1 + released, dropped })
+    }
+
+    fn relate(&self, a: MarkId, b: MarkId) -> Result<Relation, Refusal> {
+        let (p, q) = (self.place(a)?, self.place(b)?);
+        Ok(if p == q {
+            Relation::Same
+        } else if self.precedes(p, q) {
+            Relation::Before
+        } else if self.precedes(q, p) {
+            Relation::After
+        } else {
+            Relation::Concurrent
+        })
+    }
+
+    fn apart(&self, a: MarkId, out: &mut [MarkId]) -> Result<usize, Refusal> {
+        let p = self.place(a)?;
+        let apart = || (0..self.desks.len()).filter(|&q| self.concurrent(p, q));
+        let count = apart().count();
+        let out = out.get_mut(..count).ok_or(Refusal::OutputShort)?;
+        for (name, q) in out.iter_mut().zip(apart()) {
+            *name = self.name(q);
+        }
+        Ok(count)
+    }
+
+    fn first_apart(&self, a: MarkId, desk: u8) -> Result<u16, Refusal> {
+        if !(1..=DESKS).contains(&desk) {
+            return Err(Refusal::DeskRange);
+        }
+        let p = self.place(a)?;
+        let before = (0..p).filter(|&q| self.desks[q] == desk);
+        Ok(before.filter(|&q| !self.precedes(q, p)).map(|q| self.numbers[q]).min().unwrap_or(0))
+    }
+}
+
+impl Stamped for ByReference {
+    type Snapshot = ByReference;
+
+    fn frame_again(&self, a: MarkId, out: &mut [u8]) -> Result<usize, Refusal> {
+        frame::write(&self.held_at(self.place(a)?), out)
+    }
+
+    fn executed(&self) -> Vec<Mark> {
+        (0..self.desks.len()).map(|p| mark_of(&self.held_at(p))).collect()
+    }
+
+    fn waiting(&self) -> Vec<Mark> {
+        self.waiting.iter().map(mark_of).collect()
+    }
+
+    fn snapshot(&self) -> ByReference {
+        self.clone()
+    }
+}

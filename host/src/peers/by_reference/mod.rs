@@ -1,0 +1,142 @@
+//! The proved engine's plan in plain Rust: flat arrays by place, lent and never copied, with full counts kept per mark.
+//!
+//! What the proved engine finds by following stamp entries, its trace, stands here ready in the full counts: at index
+//! d − 1 how many marks of desk d precede the mark.
+mod calls;
+mod frame;
+
+use crate::{MarkBox, DESKS, PLACES};
+
+const WIDTH: usize = DESKS as usize;
+
+/// One count for each desk.
+type Row = [u16; WIDTH];
+
+/// A mark with its stamp as a row: at index d − 1 the number that it names of desk d, or 0.
+#[derive(Clone, PartialEq)]
+struct Held {
+    desk: u8,
+    number: u16,
+    extent: MarkBox,
+    row: Row,
+}
+
+/// A desk, kept by reference.
+#[derive(Clone, PartialEq)]
+pub struct ByReference {
+    own: u8,
+    desks: Vec<u8>,
+    numbers: Vec<u16>,
+    boxes: Vec<MarkBox>,
+    stamps: Vec<Row>,
+    counts: Vec<Row>,
+    waiting: Vec<Held>,
+}
+
+/// At each desk the greater of the two counts.
+fn join(row: &mut Row, other: &Row) {
+    for (mine, theirs) in row.iter_mut().zip(other) {
+        *mine = (*mine).max(*theirs);
+    }
+}
+
+/// The readiness test, by the tally.
+fn ready(tally: &Row, mark: &Held) -> bool {
+    mark.row.iter().zip(tally).all(|(named, made)| named <= made)
+        && mark.number <= tally[usize::from(mark.desk) - 1] + 1
+}
+
+/// The false-stamp test of a ready mark; `below` is what precedes an entry of its stamp.
+fn false_stamp(mark: &Held, below: &Row) -> bool {
+    let own = usize::from(mark.desk) - 1;
+    mark.row.iter().zip(below).any(|(&named, &under)| named > 0 && named <= under)
+        || (mark.number > 1 && mark.row[own].max(below[own]) < mark.number - 1)
+}
+
+impl ByReference {
+    fn empty(own: u8) -> ByReference {
+        ByReference {
+            own,
+            desks: Vec::with_capacity(PLACES),
+            numbers: Vec::with_capacity(PLACES),
+            boxes: Vec::with_capacity(PLACES),
+            stamps: Vec::with_capacity(PLACES),
+            counts: Vec::with_capacity(PLACES),
+            waiting: Vec::new(),
+        }
+    }
+
+    fn find(&self, desk: u8, number: u16) -> Option<usize> {
+        (0..self.desks.len()).find(|&p| self.desks[p] == desk && self.numbers[p] == number)
+    }
+
+    fn tally(&self) -> Row {
+        let mut tally = [0; WIDTH];
+        for &desk in &self.desks {
+            tally[usize::from(desk) - 1] += 1;
+        }
+        tally
+    }
+
+    /// For each desk the number of its last mark, where no stamp names it; else 0.
+    fn heads(&self, tally: &Row) -> Row {
+        let mut heads = *tally;
+        for stamp in &self.stamps {
+            for (head, (named, last)) in heads.iter_mut().zip(stamp.iter().zip(tally)) {
+                if named == last {
+                    *head = 0;
+                }
+            }
+        }
+        heads
+    }
+
+    /// How many marks of each desk precede an entry of the stamp.
+    fn below(&self, stamp: &Row) -> Row {
+        let mut below = [0; WIDTH];
+        for (place, &desk) in self.desks.iter().enumerate() {
+            if self.numbers[place] == stamp[usize::from(desk) - 1] {
+                join(&mut below, &self.counts[place]);
+            }
+        }
+        below
+    }
+
+    /// A mark takes the next place; `below` is what precedes an entry of its stamp.
+    fn execute(&mut self, mark: &Held, mut below: Row) {
+        join(&mut below, &mark.row);
+        self.desks.push(mark.desk);
+        self.numbers.push(mark.number);
+        self.boxes.push(mark.extent);
+        self.stamps.push(mark.row);
+        self.counts.push(below);
+    }
+
+    /// Releases the ready waiting marks, lowest desk first: how many were executed and how many dropped.
+    fn release(&mut self) -> (u16, u16) {
+        let (mut executed, mut dropped) = (0, 0);
+        while !self.waiting.is_empty() {
+            let tally = self.tally();
+            let ready = (0..self.waiting.len()).filter(|&i| ready(&tally, &self.waiting[i]));
+            let Some(lowest) = ready.min_by_key(|&i| self.waiting[i].desk) else { break };
+            let mark = self.waiting.remove(lowest);
+            let below = self.below(&mark.row);
+            if false_stamp(&mark, &below) {
+                dropped += 1;
+            } else {
+                self.execute(&mark, below);
+                executed += 1;
+            }
+        }
+        (executed, dropped)
+    }
+
+    /// Does the mark at place p precede that at place q?
+    fn precedes(&self, p: usize, q: usize) -> bool {
+        self.numbers[p] <= self.counts[q][usize::from(self.desks[p]) - 1]
+    }
+
+    fn concurrent(&self, p: usize, q: usize) -> bool {
+        p != q && !self.precedes(p, q) && !self.precedes(q, p)
+    }
+}

@@ -1,0 +1,119 @@
+//! The model's calls: conditions by rising number, as document 01's table has them.
+use std::collections::BTreeMap;
+
+use super::{codec, Model};
+use crate::peers::{Engine, Stamped};
+use crate::{Mark, MarkBox, MarkId, Marked, Reception, Refusal, Relation};
+
+impl Model {
+    /// 7: of this desk and not yet made.
+    fn unmade(&self, id: MarkId) -> bool {
+        id.desk == self.own && usize::from(id.number) > self.tally(self.own)
+    }
+
+    fn known(&self, id: MarkId) -> Option<&Mark> {
+        let executed = self.find(id).ok().map(|e| &e.mark);
+        executed.or_else(|| self.waiting.iter().find(|w| w.id == id))
+    }
+}
+
+impl Engine for Model {
+    fn new(own: u8) -> Result<Self, Refusal> {
+        if !(1..=16).contains(&own) {
+            return Err(Refusal::DeskRange);
+        }
+        Ok(Model { own, executed: Vec::new(), places: BTreeMap::new(), waiting: Vec::new() })
+    }
+
+    fn mark(&mut self, extent: MarkBox, out: &mut [u8]) -> Result<Marked, Refusal> {
+        if !codec::box_rule(extent) {
+            return Err(Refusal::FieldRange);
+        }
+        if self.held() == 512 {
+            return Err(Refusal::DeskFull);
+        }
+        let number = self.tally(self.own) as u16 + 1;
+        let mark = Mark { id: MarkId::new(self.own, number), extent, stamp: self.heads() };
+        let size = codec::put(&codec::frame_of(&mark), out)?;
+        self.execute(mark);
+        Ok(Marked { number, size })
+    }
+
+    fn receive(&mut self, frame: &[u8]) -> Result<Reception, Refusal> {
+        let mark = codec::read(frame)?;
+        if self.unmade(mark.id) || mark.stamp.iter().any(|e| self.unmade(*e)) {
+            return Err(Refusal::NotYetMade);
+        }
+        if let Some(known) = self.known(mark.id) {
+            return if codec::frame_of(known) == frame { Ok(Reception::Known) } else { Err(Refusal::OtherBytes) };
+        }
+        if self.held() == 512 {
+            return Err(Refusal::DeskFull);
+        }
+        if !self.ready(&mark) {
+            if self.waiting.len() == 64 {
+                return Err(Refusal::WaitingFull);
+            }
+            self.waiting.push(mark);
+            return Ok(Reception::Waiting);
+        }
+        if self.false_stamp(&mark) {
+            return Err(Refusal::FalseStamp);
+        }
+        self.execute(mark);
+        let (released, dropped) = self.release();
+        Ok(Reception::Executed { executed: 1 + released, dropped })
+    }
+
+    fn relate(&self, a: MarkId, b: MarkId) -> Result<Relation, Refusal> {
+        let (a, b) = (self.find(a)?, self.find(b)?);
+        Ok(if a.mark.id == b.mark.id {
+            Relation::Same
+        } else if self.precedes(a, b) {
+            Relation::Before
+        } else if self.precedes(b, a) {
+            Relation::After
+        } else {
+            Relation::Concurrent
+        })
+    }
+
+    fn apart(&self, a: MarkId, out: &mut [MarkId]) -> Result<usize, Refusal> {
+        let a = self.find(a)?;
+        let apart = self.executed.iter().filter(|b| self.concurrent(a, b));
+        let names: Vec<MarkId> = apart.map(|b| b.mark.id).collect();
+        let room = out.get_mut(..names.len()).ok_or(Refusal::OutputShort)?;
+        room.copy_from_slice(&names);
+        Ok(names.len())
+    }
+
+    fn first_apart(&self, a: MarkId, desk: u8) -> Result<u16, Refusal> {
+        if !(1..=16).contains(&desk) {
+            return Err(Refusal::DeskRange);
+        }
+        let a = self.find(a)?;
+        let before = self.executed[..self.places[&a.mark.id]].iter();
+        let apart = before.filter(|b| b.mark.id.desk == desk && self.concurrent(a, b));
+        Ok(apart.map(|b| b.mark.id.number).min().unwrap_or(0))
+    }
+}
+
+impl Stamped for Model {
+    type Snapshot = (Vec<Mark>, Vec<Mark>);
+
+    fn frame_again(&self, a: MarkId, out: &mut [u8]) -> Result<usize, Refusal> {
+        codec::put(&codec::frame_of(&self.find(a)?.mark), out)
+    }
+
+    fn executed(&self) -> Vec<Mark> {
+        self.executed.iter().map(|e| e.mark.clone()).collect()
+    }
+
+    fn waiting(&self) -> Vec<Mark> {
+        self.waiting.clone()
+    }
+
+    fn snapshot(&self) -> Self::Snapshot {
+        (self.executed(), self.waiting())
+    }
+}

@@ -1,0 +1,123 @@
+//! The command line tool: its answers on the examples, its pictures, and what it says of wrong scripts.
+use std::io::Write;
+use std::process::{Command, Output, Stdio};
+
+const EXAMPLES: &str = concat!(env!("CARGO_MANIFEST_DIR"), "/../examples");
+
+/// Runs the tool in the folder of examples, with a script on standard input.
+fn tool(words: &[&str], script: &str) -> Output {
+    let mut command = Command::new(env!("CARGO_BIN_EXE_kaungimewe"));
+    command.args(words).current_dir(EXAMPLES);
+    command.stdin(Stdio::piped()).stdout(Stdio::piped()).stderr(Stdio::piped());
+    let mut child = command.spawn().expect("the tool starts");
+    let mut input = child.stdin.take().expect("its standard input");
+    // A tool that stops at a wrong line does not read the rest.
+    let _ = input.write_all(script.as_bytes());
+    drop(input);
+    child.wait_with_output().expect("the tool ends")
+}
+
+fn text(bytes: &[u8]) -> &str {
+    std::str::from_utf8(bytes).expect("text")
+}
+
+/// What the tool prints, which must be all right.
+fn printed(words: &[&str], script: &str) -> String {
+    let output = tool(words, script);
+    assert_eq!((text(&output.stderr), output.status.code()), ("", Some(0)), "{words:?}");
+    text(&output.stdout).to_string()
+}
+
+fn stored(name: &str) -> String {
+    std::fs::read_to_string(format!("{EXAMPLES}/{name}")).expect(name)
+}
+
+#[test]
+fn examples_are_answered_as_stored() {
+    assert_eq!(printed(&["run", "paper.txt"], ""), stored("paper.out"));
+    assert_eq!(printed(&["run", "--explain", "refusals.txt"], ""), stored("refusals.out"));
+}
+
+#[test]
+fn a_script_may_come_by_standard_input() {
+    let script = stored("paper.txt");
+    assert_eq!(printed(&["run"], &script), stored("paper.out"));
+    assert_eq!(printed(&["run", "-"], &script), stored("paper.out"));
+    assert_eq!(printed(&["run"], ""), "");
+}
+
+#[test]
+fn refusals_are_numbers_unless_explained() {
+    assert_eq!(printed(&["run"], "new 17\n"), "refused 1\n");
+    assert_eq!(printed(&["run", "--explain"], "new 17\n"), "refused 1: desk not 1 to 16\n");
+    assert_eq!(printed(&["run"], "new 300\nnew 99999999999999999999\n"), "refused 1\nrefused 1\n");
+}
+
+#[test]
+fn a_wrong_line_stops_the_run() {
+    for (script, answers, wrong) in [
+        ("new 1\nnew\n", "desk 1\n", "line 2: D is missing\n"),
+        ("# none\n\nfly 1\nnew 1\n", "", "line 3: `fly` is not a call\n"),
+        ("new 1\nlist 2\n", "desk 1\n", "line 2: there is no such desk: `new` has not made it\n"),
+        ("new 1\nhand 2 1.1\n", "desk 1\n", "line 2: there is no such desk: `new` has not made it\n"),
+        ("read 0g\n", "", "line 1: HEX `0g` is not whole bytes in hex, nor `-`\n"),
+        ("mark 1 0 1 2 3", "", "line 1: there is no such desk: `new` has not made it\n"),
+    ] {
+        for command in ["run", "draw"] {
+            let output = tool(&[command], script);
+            assert_eq!((text(&output.stderr), output.status.code()), (wrong, Some(2)), "{command} {script}");
+            assert_eq!(text(&output.stdout), if command == "run" { answers } else { "" });
+        }
+    }
+}
+
+#[test]
+fn wrong_commands_are_told() {
+    for words in [
+        &["fly"][..],
+        &["run", "--fly"],
+        &["run", "none.txt"],
+        &["run", "paper.txt", "paper.txt"],
+        &["draw", "--apart"],
+        &["draw", "--apart", "9.9", "paper.txt"],
+        &["bench", "--rounds", "many"],
+        &[],
+    ] {
+        let output = tool(words, "");
+        assert_eq!(output.status.code(), Some(2), "{words:?}");
+        assert!(!output.stderr.is_empty() && output.stdout.is_empty(), "{words:?}");
+    }
+}
+
+#[test]
+fn help_names_every_call_and_refusal() {
+    assert!(printed(&["--help"], "").contains("./kaungimewe run"));
+    let help = printed(&["run", "--help"], "");
+    let calls =
+        ["new", "mark", "receive", "hand", "relate", "apart", "first", "frame", "list", "held", "read", "write"];
+    for call in calls {
+        assert!(help.contains(&format!("\n  {call} ")), "{call}");
+    }
+    for refusal in kaungimewe::Refusal::ALL {
+        assert!(help.contains(refusal.sentence()), "{refusal}");
+    }
+}
+
+#[test]
+fn the_picture_of_the_scenario() {
+    let picture = printed(&["draw", "--apart", "4.1", "paper.txt"], "");
+    assert_eq!(picture, stored("paper.svg"));
+    assert_eq!(picture.matches("class=\"desk\"").count(), 4, "a line for each desk");
+    assert_eq!(picture.matches("class=\"entry\"").count(), 7, "an arrow for each entry of a stamp");
+    assert_eq!(picture.matches("class=\"pair\"").count(), 3, "a line for each mark concurrent with 4.1");
+    let waiting = printed(&["draw"], "new 1\nnew 2\nmark 1 0 1 0 1\nmark 1 0 1 0 1\nhand 2 1.2\n");
+    assert_eq!(waiting.matches("<g class=\"waiting\">").count(), 2, "the hollow box and its sample");
+}
+
+#[test]
+fn the_benchmark_reports() {
+    let report = printed(&["bench", "--rounds", "1"], "");
+    for word in ["Receive", "Mark", "Relate, all pairs", "Apart", "First apart", "Bytes on the wire", "Bounds"] {
+        assert!(report.contains(word), "{word}");
+    }
+}

@@ -1,0 +1,51 @@
+//! How often Receive has given each answer.
+use kaungimewe::{Reception, Refusal};
+
+/// Frames received, by answer: known, waiting, executed, and the refusals by number. Marks released and dropped besides.
+#[derive(Clone, Copy, Debug, Default)]
+pub struct Answers {
+    pub frames: usize,
+    pub known: usize,
+    pub waiting: usize,
+    pub executed: usize,
+    pub released: usize,
+    pub dropped: usize,
+    pub refused: [usize; 14],
+}
+
+impl Answers {
+    pub fn count(&mut self, answer: Result<Reception, Refusal>) {
+        self.frames += 1;
+        match answer {
+            Ok(Reception::Known) => self.known += 1,
+            Ok(Reception::Waiting) => self.waiting += 1,
+            Ok(Reception::Executed { executed, dropped }) => {
+                self.executed += 1;
+                self.released += usize::from(executed) - 1;
+                self.dropped += usize::from(dropped);
+            }
+            Err(refusal) => self.refused[usize::from(refusal.number())] += 1,
+        }
+    }
+
+    /// Every answer of Receive that document 01 names was given: refusals 2 to 11, and those that are none.
+    pub fn all_given(&self) -> bool {
+        let others = [self.known, self.waiting, self.executed, self.released, self.dropped];
+        others.iter().chain(&self.refused[2..=11]).all(|&count| count > 0)
+    }
+}
+
+impl std::iter::Sum for Answers {
+    fn sum<I: Iterator<Item = Answers>>(each: I) -> Answers {
+        each.fold(Answers::default(), |mut sum, a| {
+            sum.frames += a.frames;
+            sum.known += a.known;
+            sum.waiting += a.waiting;
+            sum.executed += a.executed;
+            sum.released += a.released;
+            sum.dropped += a.dropped;
+            sum.refused.iter_mut().zip(a.refused).for_each(|(sum, count)| *sum += count);
+            sum
+        })
+    }
+}

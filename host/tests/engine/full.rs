@@ -1,0 +1,111 @@
+//! Full desks and full waiting sets.
+use kaungimewe::peers::draws::Draws;
+use kaungimewe::peers::model::codec;
+use kaungimewe::peers::{Engine, Stamped};
+use kaungimewe::{Desk, Mark, MarkBox, MarkId, Reception, Refusal};
+
+use crate::answers::Answers;
+use crate::pair::{executed, Pair};
+
+/// The frame of mark d.n that follows nothing but d.(n − 1).
+pub fn chained(desk: u8, number: u16) -> Vec<u8> {
+    let stamp = if number > 1 { vec![MarkId::new(desk, number - 1)] } else { Vec::new() };
+    codec::frame_of(&Mark { id: MarkId::new(desk, number), extent: MarkBox::new(1, 2, 3, 4), stamp })
+}
+
+/// A random sequence that ends with a full desk: what Receive answered.
+pub fn sequence<E: Stamped>(draws: &mut Draws) -> Answers {
+    let mut desk = Pair::<E>::new(1);
+    let mut next = [1u16; 17];
+    let waiting = if draws.percent(50) { 64 } else { draws.below(65) };
+    let spare = draws.below(4);
+    fill(&mut desk, &mut next, 512 - waiting - spare, draws);
+    let late = 2 + draws.below(15);
+    let ahead = |by: usize| chained(late as u8, next[late] + by as u16);
+    for by in 1..=waiting {
+        assert_eq!(desk.receive(&ahead(by)), Ok(Reception::Waiting));
+    }
+    if spare > 0 && waiting == 64 {
+        assert_eq!(desk.receive(&ahead(65)), Err(Refusal::WaitingFull));
+    }
+    for _ in 0..spare {
+        desk.make();
+    }
+    assert_eq!(desk.mark(MarkBox::new(1, 2, 3, 4), 71), Err(Refusal::DeskFull));
+    for other in 2..=16 {
+        assert_eq!(desk.receive(&chained(other, next[usize::from(other)])), Err(Refusal::DeskFull));
+    }
+    assert_eq!(desk.receive(&chained(3, 1)), Ok(Reception::Known));
+    desk.compare(draws);
+    desk.answers
+}
+
+/// Marks of its own and of the others until so many are executed; the others' first marks come first.
+fn fill<E: Stamped>(desk: &mut Pair<E>, next: &mut [u16; 17], count: usize, draws: &mut Draws) {
+    for place in 0..count {
+        let maker = if place < 16 { place + 1 } else { 1 + draws.below(16) };
+        if maker == 1 {
+            desk.make();
+        } else {
+            assert_eq!(desk.receive(&chained(maker as u8, next[maker])), executed(1, 0));
+        }
+        next[maker] += 1;
+    }
+}
+
+#[test]
+fn five_hundred_and_twelve_marks_of_its_own() {
+    let mut desk = Pair::<Desk>::new(7);
+    for _ in 0..512 {
+        desk.make();
+    }
+    assert_eq!(desk.mark(MarkBox::new(1, 2, 3, 4), 71), Err(Refusal::DeskFull));
+    assert_eq!(desk.receive(&chained(8, 1)), Err(Refusal::DeskFull));
+    desk.compare(&mut Draws::new(1));
+}
+
+#[test]
+fn every_pair_of_a_full_desk() {
+    let mut desk = Pair::<Desk>::new(1);
+    fill(&mut desk, &mut [1; 17], 512, &mut Draws::new(2));
+    let names: Vec<MarkId> = desk.engine.executed().iter().map(|mark| mark.id).collect();
+    for &a in &names {
+        for &b in &names {
+            assert_eq!(desk.engine.relate(a, b), desk.model.relate(a, b), "relate {a} {b}");
+        }
+        desk.compare_apart(a);
+    }
+}
+
+#[test]
+fn sixty_four_wait_and_one_frame_releases_them() {
+    let mut desk = Pair::<Desk>::new(1);
+    for number in 2..=65 {
+        assert_eq!(desk.receive(&chained(9, number)), Ok(Reception::Waiting));
+    }
+    assert_eq!(desk.receive(&chained(9, 66)), Err(Refusal::WaitingFull));
+    assert_eq!(desk.receive(&chained(8, 2)), Err(Refusal::WaitingFull));
+    assert_eq!(desk.receive(&chained(9, 40)), Ok(Reception::Known));
+    assert_eq!(desk.receive(&chained(8, 1)), executed(1, 0));
+    assert_eq!(desk.receive(&chained(9, 1)), executed(65, 0));
+    assert_eq!(desk.receive(&chained(9, 67)), Ok(Reception::Waiting));
+    desk.compare(&mut Draws::new(3));
+}
+
+#[test]
+fn freed_places_serve_again() {
+    let mut desk = Pair::<Desk>::new(1);
+    fill(&mut desk, &mut [1; 17], 448, &mut Draws::new(4));
+    let last = desk.engine.executed().iter().filter(|m| m.id.desk == 2).count() as u16;
+    let lie = |number| {
+        let mark = Mark { id: MarkId::new(2, number), extent: MarkBox::new(1, 2, 3, 4), stamp: Vec::new() };
+        codec::frame_of(&mark)
+    };
+    for number in last + 2..=last + 64 {
+        assert_eq!(desk.receive(&lie(number)), Ok(Reception::Waiting));
+    }
+    assert_eq!(desk.receive(&chained(2, last + 1)), executed(1, 1));
+    assert_eq!(desk.receive(&chained(2, last + 2)), executed(1, 1));
+    assert_eq!(desk.mark(MarkBox::new(1, 2, 3, 4), 71).map(|_| ()), Ok(()));
+    desk.compare(&mut Draws::new(5));
+}

@@ -1,0 +1,11 @@
+//! The proved engine against the model of document 01: examples, random sequences, damaged and forged frames, bounds.
+mod answers;
+mod compare;
+mod damaged;
+mod examples;
+mod forged;
+mod full;
+mod lengths;
+mod network;
+mod pair;
+mod sequences;

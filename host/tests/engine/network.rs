@@ -1,0 +1,158 @@
+//! Desks that exchange true frames over a network with loss, doubling and delay, held against the past of each mark.
+use std::collections::{BTreeMap, BTreeSet};
+
+use kaungimewe::peers::draws::Draws;
+use kaungimewe::peers::Stamped;
+use kaungimewe::{Desk, Mark, MarkBox, MarkId, Refusal};
+
+use crate::answers::Answers;
+use crate::pair::Pair;
+
+/// The desks, the frames made, and what is on its way: a desk's index and a frame's.
+struct Network<E> {
+    desks: Vec<Pair<E>>,
+    frames: Vec<Vec<u8>>,
+    on_the_way: Vec<(usize, usize)>,
+    /// For each mark all marks that its desk had executed when it was made.
+    pasts: BTreeMap<MarkId, BTreeSet<MarkId>>,
+}
+
+/// How the network treats frames, in percent; and among how many of the oldest ones it chooses the next.
+struct Weather {
+    marking: usize,
+    loss: usize,
+    doubling: usize,
+    delay: usize,
+}
+
+/// A random sequence: what Receive answered.
+pub fn sequence<E: Stamped>(draws: &mut Draws) -> Answers {
+    let weather = Weather {
+        marking: 10 + draws.below(50),
+        loss: *draws.pick(&[0, 5, 30]),
+        doubling: *draws.pick(&[0, 10, 40]),
+        delay: *draws.pick(&[1, 4, 20, 1000]),
+    };
+    let count = 1 + draws.below(16);
+    let steps = 30 + draws.below(120);
+    run::<E>(count, steps, &weather, draws)
+}
+
+fn run<E: Stamped>(count: usize, steps: usize, weather: &Weather, draws: &mut Draws) -> Answers {
+    let mut network = Network::<E>::new(count, draws);
+    for _ in 0..steps {
+        network.step(weather, draws);
+    }
+    if draws.percent(60) {
+        network.hand_everything(draws);
+    }
+    network.compare(draws);
+    network.desks.iter().map(|desk| desk.answers).sum()
+}
+
+#[test]
+fn long_sequences_of_sixteen_desks() {
+    let weather = |loss| Weather { marking: 7, loss, doubling: 5, delay: 30 };
+    let sound = run::<Desk>(16, 4_000, &weather(0), &mut Draws::new(1));
+    assert!(sound.executed + sound.released > 3_000, "{sound:?}");
+    let lossy = run::<Desk>(16, 4_000, &weather(1), &mut Draws::new(1));
+    assert!(lossy.refused[10] > 100, "waiting sets are full at last: {lossy:?}");
+}
+
+/// A box, now and then a broken one.
+pub fn draw_box(draws: &mut Draws) -> MarkBox {
+    let mut span = || {
+        let low = draws.bits() as u32 >> draws.below(32);
+        let length = if draws.percent(3) { 0 } else { 1 + draws.below(1000) as u32 };
+        (low, low.saturating_add(length))
+    };
+    let ((start, end), (low, high)) = (span(), span());
+    MarkBox::new(start, end, low, high)
+}
+
+impl<E: Stamped> Network<E> {
+    /// So many desks with different numbers.
+    fn new(count: usize, draws: &mut Draws) -> Network<E> {
+        let mut numbers: Vec<u8> = (1..=16).collect();
+        let desks = (0..count).map(|_| Pair::new(numbers.swap_remove(draws.below(numbers.len())))).collect();
+        Network { desks, frames: Vec::new(), on_the_way: Vec::new(), pasts: BTreeMap::new() }
+    }
+
+    fn step(&mut self, weather: &Weather, draws: &mut Draws) {
+        if self.on_the_way.is_empty() || draws.percent(weather.marking) {
+            return self.mark(weather, draws);
+        }
+        let oldest = self.on_the_way.len().min(weather.delay);
+        let (desk, frame) = self.on_the_way.remove(draws.below(oldest));
+        self.hand(desk, frame);
+    }
+
+    fn mark(&mut self, weather: &Weather, draws: &mut Draws) {
+        let maker = draws.below(self.desks.len());
+        let lent = if draws.percent(10) { draws.below(81) } else { 71 };
+        let past = names(&self.desks[maker].engine.executed());
+        let (made, frame) = match self.desks[maker].mark(draw_box(draws), lent) {
+            Ok(made) => made,
+            Err(refusal) => {
+                assert!([Refusal::FieldRange, Refusal::DeskFull, Refusal::OutputShort].contains(&refusal));
+                return;
+            }
+        };
+        self.pasts.insert(MarkId::new(frame[3], made.number), past);
+        for desk in (0..self.desks.len()).filter(|&desk| desk != maker) {
+            for _ in 0..1 + usize::from(draws.percent(weather.doubling)) {
+                if !draws.percent(weather.loss) {
+                    self.on_the_way.push((desk, self.frames.len()));
+                }
+            }
+        }
+        self.frames.push(frame);
+    }
+
+    fn hand(&mut self, desk: usize, frame: usize) {
+        let answer = self.desks[desk].receive(&self.frames[frame]);
+        if let Err(refusal) = answer {
+            assert!([Refusal::DeskFull, Refusal::WaitingFull].contains(&refusal), "a true frame was {refusal}");
+        }
+    }
+
+    /// Every frame to every desk, the maker's too, in a drawn order.
+    fn hand_everything(&mut self, draws: &mut Draws) {
+        for desk in 0..self.desks.len() {
+            let mut frames: Vec<usize> = (0..self.frames.len()).collect();
+            while !frames.is_empty() {
+                self.hand(desk, frames.swap_remove(draws.below(frames.len())));
+            }
+        }
+    }
+
+    fn compare(&self, draws: &mut Draws) {
+        let stamps: BTreeMap<MarkId, Vec<MarkId>> = self.pasts.keys().map(|&id| (id, self.last_of_past(id))).collect();
+        for desk in &self.desks {
+            desk.compare(draws);
+            let executed = desk.engine.executed();
+            let listed = names(&executed);
+            for (place, mark) in executed.iter().enumerate() {
+                let past = &self.pasts[&mark.id];
+                let found = desk.model.past(mark.id).expect("it is executed");
+                assert!(found.iter().eq(past), "past of {}", mark.id);
+                assert!(past.is_subset(&names(&executed[..place])), "{} stands before its past", mark.id);
+                assert_eq!(mark.stamp, stamps[&mark.id], "stamp of {}", mark.id);
+            }
+            for mark in desk.engine.waiting() {
+                assert!(!self.pasts[&mark.id].is_subset(&listed), "{} waits for nothing", mark.id);
+                assert_eq!(mark.stamp, stamps[&mark.id], "stamp of {}", mark.id);
+            }
+        }
+    }
+
+    /// The marks of a mark's past that happened before no other mark of it.
+    fn last_of_past(&self, id: MarkId) -> Vec<MarkId> {
+        let past = &self.pasts[&id];
+        past.iter().copied().filter(|a| !past.iter().any(|b| self.pasts[b].contains(a))).collect()
+    }
+}
+
+fn names(marks: &[Mark]) -> BTreeSet<MarkId> {
+    marks.iter().map(|mark| mark.id).collect()
+}

@@ -1,0 +1,66 @@
+//! An engine and the model, driven together: each answer is compared as it comes.
+use kaungimewe::peers::model::Model;
+use kaungimewe::peers::{Engine, Stamped};
+use kaungimewe::{MarkBox, Marked, Reception, Refusal};
+
+use crate::answers::Answers;
+
+/// What lent bytes hold before a call.
+pub const FILL: u8 = 0x77;
+
+/// A desk of the engine and the model's desk of the same number.
+pub struct Pair<E> {
+    pub own: u8,
+    pub engine: E,
+    pub model: Model,
+    /// What Receive has answered.
+    pub answers: Answers,
+}
+
+impl<E: Stamped> Pair<E> {
+    pub fn new(own: u8) -> Pair<E> {
+        let (engine, model) = (E::new(own), Model::new(own));
+        Pair { own, engine: engine.expect("a desk"), model: model.expect("a desk"), answers: Answers::default() }
+    }
+
+    /// Calls the engine where the model has answered; after a refusal the desk must be as it was.
+    fn same<A: PartialEq + std::fmt::Debug>(
+        &mut self,
+        expected: Result<A, Refusal>,
+        call: impl FnOnce(&mut E) -> Result<A, Refusal>,
+    ) -> Result<A, Refusal> {
+        let before = expected.is_err().then(|| self.engine.snapshot());
+        let found = call(&mut self.engine);
+        assert_eq!(found, expected);
+        assert!(before.is_none_or(|b| b == self.engine.snapshot()), "a refused call has changed the desk");
+        found
+    }
+
+    /// Mark into so many lent bytes: the answer and the frame.
+    pub fn mark(&mut self, extent: MarkBox, lent: usize) -> Result<(Marked, Vec<u8>), Refusal> {
+        let (mut expected, mut found) = ([FILL; 96], [FILL; 96]);
+        let answer = self.model.mark(extent, &mut expected[..lent]);
+        let made = self.same(answer, |engine| engine.mark(extent, &mut found[..lent]));
+        assert_eq!(found, expected);
+        made.map(|made| (made, found[..made.size].to_vec()))
+    }
+
+    /// Mark with a plain box and room: the frame.
+    pub fn make(&mut self) -> Vec<u8> {
+        self.mark(MarkBox::new(1_000, 1_500, 100, 400), 71).expect("room for a mark").1
+    }
+
+    pub fn receive(&mut self, frame: &[u8]) -> Result<Reception, Refusal> {
+        let answer = self.model.receive(frame);
+        self.answers.count(answer);
+        let known = (answer == Ok(Reception::Known)).then(|| self.engine.snapshot());
+        let found = self.same(answer, |engine| engine.receive(frame));
+        assert!(known.is_none_or(|k| k == self.engine.snapshot()), "a known mark has changed the desk");
+        found
+    }
+}
+
+/// What Receive answers of marks executed by the call and dropped.
+pub fn executed(executed: u16, dropped: u16) -> Result<Reception, Refusal> {
+    Ok(Reception::Executed { executed, dropped })
+}
