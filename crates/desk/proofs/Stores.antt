@@ -11,6 +11,7 @@ use Rattle.waiting.specs.declared.Held.{Held}
 use Rattle.desk.specs.declared.Desk.{Desk}
 use Rattle.causality.specs.Marks.{places}
 use Rattle.rows.specs.View.{SameOutside, ZeroFrom, boxAt, view, width}
+use Rattle.queries.proofs.Zeros.{zero-one}
 use Rattle.waiting.specs.Queue.{heldId, heldMark}
 use Rattle.desk.specs.StateOf.{Unused, stateOf}
 use Rattle.desk.specs.Steps.{Executes}
@@ -32,9 +33,6 @@ withMark d h bs ss = record {
 -- One number stored at the first unused index.
 outside-one : (xs : List ℕ) (k v : ℕ) → SameOutside xs (set xs k v) k 1
 outside-one xs k v = outside-set xs k 1 xs k v (outside-none xs k 1) (omega arith) (omega arith)
-
-zero-one : (xs : List ℕ) (n k v : ℕ) → ZeroFrom xs n k → ZeroFrom (set xs k v) n (k + 1)
-zero-one xs n k v z = zero-after xs k 1 (set xs k v) n z (outside-one xs k v)
 
 module _ (d : Desk) (h : Held) (u : Unused d) (l : d .count < places) (bs ss : List ℕ)
     (boxes : SameOutside (d .boxes) bs (d .count * 4) 4) (extent : boxAt bs (d .count) ≡ h .extent)

@@ -2,7 +2,7 @@
 use Prim.Native.Nat.{_+_, _-_, _*_, _<_, _≤_, suc, zero, ℕ}
 use borrow.Author.Tests.{eq-eqb, eqb-false, eqb-true, le-leb, le-ltb, lt-leb, lt-ltb, ne-eqb}
 use lib.Dec.{T, eqb, leb, ltb, ltb→lt, nltb→le, not-T}
-use lib.ListN.{getD, length, length-set, replicate, set}
+use lib.ListN.{getD, length, replicate, set}
 use lib.Seq.{getD-set-other, getD-set-same}
 use mathlib.Core.Bool.{Bool, _&&_, _||_, and-false, cond, false, not, or-true, true}
 use mathlib.Core.List.{List, _∷_}
@@ -13,7 +13,7 @@ use native.Mathlib.Numerals.{add-one, sub-one}
 use native.Mathlib.Omega.{arith}
 use Rattle.frame.specs.declared.MarkBox.{MarkBox}
 use Rattle.frame.specs.Mark.{MarkId}
-use Rattle.causality.specs.Marks.{keep, same}
+use Rattle.causality.specs.Marks.{keep, places, same}
 use Rattle.causality.specs.State.{Mark, concurrent, ids, precedes}
 use Rattle.causality.proofs.Apart.{follower-cong, follower-new, followers, noted, reached-by-row, reachedBy, someFollower}
 use Rattle.causality.proofs.Logic.{T→eq, nT→eq, same-refl, same→eq, split}
@@ -24,7 +24,9 @@ use Rattle.rows.specs.View.{markAt, rowAt, rowFn, view}
 use Rattle.rows.proofs.Arrays.{sound-below}
 use Rattle.rows.proofs.Places.{has-at, not-before, precedes-there}
 use Rattle.rows.proofs.RowSteps.{not-leb}
+use Rattle.queries.specs.Found.{Spare}
 use Rattle.queries.proofs.PastRow.{PastTold, zeros}
+use Rattle.queries.proofs.Zeros.{zero-one}
 
 -- THE TEST
 
@@ -115,7 +117,7 @@ module _ (n : ℕ) (ds ns ss : List ℕ) (count p : ℕ) where
   pub record ApartTo (q : ℕ) (first : List ℕ) (list : Listed) : Type 0 where
     pub turns : q ≤ count
     pub small : list .count ≤ q
-    pub room : (count ≤ length (list .desks)) × (count ≤ length (list .numbers))
+    pub spare : Spare list
     pub rows : (bs : ℕ → MarkBox) → Sound (view n count ds ns bs ss) → (d : ℕ) → 1 ≤ d → d ≤ n → rowFn first d ≡ followers given (view n q ds ns bs ss) d
     pub names : (bs : ℕ → MarkBox) → Sound (view n count ds ns bs ss)
         → namesDown (list .count) (list .desks) (list .numbers) ≡ keep (concurrent (view n count ds ns bs ss) given) (ids (view n q ds ns bs ss))
@@ -189,7 +191,7 @@ module _ (n : ℕ) (ds ns ss : List ℕ) (count p : ℕ) where
       turn-follows e first′ f = record {
         turns = omega arith;
         small = let x = w .small in omega arith;
-        room = w .room;
+        spare = w .spare;
         rows = step-rows first′ true e f;
         names = λ bs s. w .names bs s ∙ sym (step-names false (ap (λ (b : Bool). not b && ltb (rowFn past (getD ds q 0)) (getD ns q 0)) e) bs s);
       }
@@ -199,36 +201,36 @@ module _ (n : ℕ) (ds ns ss : List ℕ) (count p : ℕ) where
       turn-past e u = record {
         turns = omega arith;
         small = let x = w .small in omega arith;
-        room = w .room;
+        spare = w .spare;
         rows = step-rows first false e (λ d lo hi. refl);
         names = λ bs s. w .names bs s ∙ sym (step-names false (let v = le-ltb (rowFn past (getD ds q 0)) (getD ns q 0) u in λ i. not (e i) && v i) bs s);
       }
 
       -- One that is not of it is listed.
-      pub turn-apart : (eqb p q || someFollower n (rowFn first) (rowAt n ss q)) ≡ false → rowFn past (getD ds q 0) < getD ns q 0
+      pub turn-apart : count ≤ places → (eqb p q || someFollower n (rowFn first) (rowAt n ss q)) ≡ false → rowFn past (getD ds q 0) < getD ns q 0
           → ApartTo (q + 1) first (record { desks = set (list .desks) (list .count) (getD ds q 0); numbers = set (list .numbers) (list .count) (getD ns q 0); count = list .count + 1 })
-      turn-apart e u = record {
+      turn-apart few e u = record {
         turns = omega arith;
         small = let z = w .small in omega arith;
-        room = (rw length-set (w .room .0), rw length-set (w .room .1));
+        spare = record { desks = zero-one (list .desks) places (list .count) (getD ds q 0) (w .spare .desks); numbers = zero-one (list .numbers) places (list .count) (getD ns q 0) (w .spare .numbers) };
         rows = step-rows first false e (λ d lo hi. refl);
-        names = λ bs s. names-more (list .desks) (list .numbers) (list .count) (getD ds q 0) (getD ns q 0) (within (w .room .0)) (within (w .room .1)) ∙ ap (λ (x : List MarkId). record { desk = getD ds q 0; number = getD ns q 0 } ∷ x) (w .names bs s)
+        names = λ bs s. names-more (list .desks) (list .numbers) (list .count) (getD ds q 0) (getD ns q 0) (within (list .desks) (w .spare .desks .long)) (within (list .numbers) (w .spare .numbers .long)) ∙ ap (λ (x : List MarkId). record { desk = getD ds q 0; number = getD ns q 0 } ∷ x) (w .names bs s)
             ∙ sym (step-names true (let v = lt-ltb (rowFn past (getD ds q 0)) (getD ns q 0) u in λ i. not (e i) && v i) bs s);
       }
         where
-          within : {k : ℕ} → count ≤ k → list .count < k
-          within h = let x = w .small in omega arith
+          within : (xs : List ℕ) → length xs ≡ places → list .count < length xs
+          within xs h = let x = w .small in omega arith
 
   -- At the start nothing is passed; at the end all marks are.
-  pub apart-none : (k : ℕ) (list : Listed) → list .count ≡ 0 → count ≤ length (list .desks) → count ≤ length (list .numbers) → ApartTo 0 (replicate k 0) list
+  pub apart-none : (k : ℕ) (list : Listed) → list .count ≡ 0 → Spare list → ApartTo 0 (replicate k 0) list
   unfolding view
-  apart-none k list e x y = record { turns = omega arith; small = omega arith; room = (x, y); rows = λ bs s d lo hi. zeros k (d - 1); names = λ bs s. rw e refl }
+  apart-none k list e x = record { turns = omega arith; small = omega arith; spare = x; rows = λ bs s d lo hi. zeros k (d - 1); names = λ bs s. rw e refl }
 
   pub apart-all : (q : ℕ) (first : List ℕ) (list : Listed) → ApartTo q first list → count ≤ q
-      → (list .count ≤ count) × ((bs : ℕ → MarkBox) → Sound (view n count ds ns bs ss)
+      → (list .count ≤ count) × Spare list × ((bs : ℕ → MarkBox) → Sound (view n count ds ns bs ss)
       → namesDown (list .count) (list .desks) (list .numbers) ≡ keep (concurrent (view n count ds ns bs ss) ((markAt n ds ns bs ss p) .id)) (ids (view n count ds ns bs ss)))
   apart-all q first list w h =
       let t = w .turns in
       let x = w .small in
       let e : q ≡ count = omega arith in
-      (omega arith, λ bs s. w .names bs s ∙ ap (λ (k : ℕ). keep (concurrent (view n count ds ns bs ss) given) (ids (view n k ds ns bs ss))) e)
+      (omega arith, w .spare, λ bs s. w .names bs s ∙ ap (λ (k : ℕ). keep (concurrent (view n count ds ns bs ss) given) (ids (view n k ds ns bs ss))) e)

@@ -14,7 +14,7 @@ ghost use Rattle.causality.specs.Meaning.{idOf};
 ghost use Rattle.causality.specs.State.{Mark};
 ghost use Rattle.causality.specs.declared.Counted.the-variants.{Refused};
 ghost use Rattle.pairs.specs.Pairs.{namesDown};
-ghost use Rattle.queries.specs.Found.{ApartFound};
+ghost use Rattle.queries.specs.Found.{ApartFound, Spare};
 ghost use Rattle.queries.specs.Lent.{lent};
 use crate::ApartList;
 use crate::past::past;
@@ -68,7 +68,7 @@ fn apart<'a>(
     p: Place,
 ) -> Listed
     requires { ⌜ (count ≤ places) × (p .0 < count) × Named width count (now desks) ⌝ }
-    ensures { λ r. ⌜ (r .count ≤ count) × ((bs : ℕ → MarkBox) → Sound (view width count (now (desks .entry)) (now (numbers .entry)) bs (now (stamps .entry))) → namesDown (r .count) (r .desks) (r .numbers) ≡ keep (concurrent (view width count (now (desks .entry)) (now (numbers .entry)) bs (now (stamps .entry))) (markAt width (now (desks .entry)) (now (numbers .entry)) bs (now (stamps .entry)) (p .0) .id)) (ids (view width count (now (desks .entry)) (now (numbers .entry)) bs (now (stamps .entry))))) ⌝ }
+    ensures { λ r. ⌜ (r .count ≤ count) × Spare r × ((bs : ℕ → MarkBox) → Sound (view width count (now (desks .entry)) (now (numbers .entry)) bs (now (stamps .entry))) → namesDown (r .count) (r .desks) (r .numbers) ≡ keep (concurrent (view width count (now (desks .entry)) (now (numbers .entry)) bs (now (stamps .entry))) (markAt width (now (desks .entry)) (now (numbers .entry)) bs (now (stamps .entry)) (p .0) .id)) (ids (view width count (now (desks .entry)) (now (numbers .entry)) bs (now (stamps .entry))))) ⌝ }
 {
     let past = past(desks, numbers, stamps, p);
     let mut first = [0u16; WIDTH];
@@ -97,7 +97,7 @@ fn apart<'a>(
 
 // A refusal lists no mark.
 fn refused(refusal: Refusal) -> ApartList
-    ensures { λ r. ⌜ (r .answer ≡ Refused refusal) × (r .list .count ≡ 0) ⌝ }
+    ensures { λ r. ⌜ (r .answer ≡ Refused refusal) × (r .list .count ≡ 0) × Spare (r .list) ⌝ }
 {
     let list = Listed {
         desks: [0; PLACES],

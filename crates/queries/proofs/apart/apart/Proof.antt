@@ -6,11 +6,13 @@ use lib.ListN.{getD}
 use borrow.Author.Needs.{needs}
 use native.Mathlib.Omega.{arith}
 use Rattle.frame.specs.declared.MarkBox.{MarkBox}
+use Rattle.causality.specs.Marks.{places}
 use Rattle.causality.proofs.Reach.{Sound}
 use Rattle.rows.specs.View.{view, width}
 use Rattle.rows.proofs.RowSteps.{named-at, named-less}
 use Rattle.queries.proofs.ApartTurns.{ApartTo, apart-all, apart-none, turn-apart, turn-follows, turn-past}
 use Rattle.queries.proofs.PastRow.{PastTold}
+use Rattle.queries.proofs.Zeros.{zero-all}
 use Rattle.queries.proofs.apart.apart.Statement.{statement}
 use Rattle.queries.proofs.apart.apart.Tie as tie
 use Rattle.queries.proofs.apart.apart.Reads as reads
@@ -32,7 +34,7 @@ past-requires : tie.Need-past-requires Inv-loop μ-loop
 past-requires c κs = (search needs, named-less width _ _ _ (c .pre .2) (c .pre .1))
 
 loop-holds : tie.Need-loop-holds Inv-loop μ-loop
-loop-holds c = apart-none width _ _ _ _ _ width _ refl (c .before .pre .0) (c .before .pre .0)
+loop-holds c = apart-none width _ _ _ _ _ width _ refl (record { desks = zero-all places 0; numbers = zero-all places 0 })
 
 -- The mark at the place passed is of a desk.
 in-range : (c : lts.After-follows known reads.Pre reads.Post Inv-loop μ-loop) → let l = c .before .before .before .before in let d = getD (l .before .before .args .desks .now) (l .loop .q) 0 in (1 ≤ d) × (d ≤ width)
@@ -71,7 +73,7 @@ loop-again c =
     ⊎-elim
     (λ w. rw (w .2, w .3) (turn-follows width _ _ _ _ _ _ _ _ (l .loop .inv) (s .pre .1) (i .loop-test .taken) (l .before .past .result) (told (l .before)) (sym (v .follows .ensures) ∙ w .0 .taken) _ (w .1 .ensures)))
     (⊎-elim
-    (λ w. rw (w .2, w .3) (turn-apart width _ _ _ _ _ _ _ _ (l .loop .inv) (s .pre .1) (i .loop-test .taken) (l .before .past .result) (told (l .before)) (sym (v .follows .ensures) ∙ w .0 .left) (w .1 .taken)))
+    (λ w. rw (w .2, w .3) (turn-apart width _ _ _ _ _ _ _ _ (l .loop .inv) (s .pre .1) (i .loop-test .taken) (l .before .past .result) (told (l .before)) (s .pre .0) (sym (v .follows .ensures) ∙ w .0 .left) (w .1 .taken)))
     (λ w. rw (w .2, w .3) (turn-past width _ _ _ _ _ _ _ _ (l .loop .inv) (s .pre .1) (i .loop-test .taken) (l .before .past .result) (told (l .before)) (sym (v .follows .ensures) ∙ w .0 .left) (w .1 .left)))) (c .if1 .came)
 
 returns : tie.Need-returns Inv-loop μ-loop

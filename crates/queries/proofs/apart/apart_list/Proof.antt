@@ -31,7 +31,7 @@ returns c own bs waiting sound =
     let f = c .before .before in
     let a = f .before .before .args in
     not-executed _ (idOf (a .a)) (a .room) (found-none width (a .desks .now) (a .numbers .now) bs (a .stamps .now) (a .count) (f .find .result) (idOf (a .a)) (c .before .if1 .taken) (f .find .ensures .0 bs (a .stamps .now)) .1)
-    (c .refused .result) (c .refused .ensures .0) (c .refused .ensures .1)
+    (c .refused .result) (c .refused .ensures .0) (c .refused .ensures .1) (c .refused .ensures .2)
 
 apart-requires : tie.Need-apart-requires
 apart-requires c κs = let s = c .before .before .before in (s .pre .0, c .if1 .left, s .pre .1)
@@ -54,18 +54,18 @@ listed c bs sound =
     let marks = view width (a .count) (a .desks .now) (a .numbers .now) bs (a .stamps .now) in
     subst (λ (i : MarkId). namesDown (c .apart .result .count) (c .apart .result .desks) (c .apart .result .numbers) ≡ keep (concurrent marks i) (ids marks))
     (found-some width (a .desks .now) (a .numbers .now) bs (a .stamps .now) (a .count) (f .find .result) (idOf (a .a)) (c .before .if1 .left) (f .find .ensures .0 bs (a .stamps .now)) .1)
-    (c .apart .ensures .1 bs sound)
+    (c .apart .ensures .2 bs sound)
 
 returns-2 : tie.Need-returns-2
 returns-2 c own bs waiting sound =
     let b = c .before .before in
-    too-short _ _ _ (executed b bs) (b .apart .result) (listed b bs sound) (c .before .if2 .taken) (c .refused2 .result) (c .refused2 .ensures .0) (c .refused2 .ensures .1)
+    too-short _ _ _ (executed b bs) (b .apart .result) (listed b bs sound) (c .before .if2 .taken) (c .refused2 .result) (c .refused2 .ensures .0) (c .refused2 .ensures .1) (c .refused2 .ensures .2)
 
 returns-3 : tie.Need-returns-3
 returns-3 c own bs waiting sound =
     let b = c .before in
     let s = b .before .before .before .before in
-    all-listed _ _ _ (executed b bs) (b .apart .result) (listed b bs sound) (c .if2 .left) (let h = s .pre .0 in let l = b .apart .ensures .0 in omega arith)
+    all-listed _ _ _ (executed b bs) (b .apart .result) (listed b bs sound) (c .if2 .left) (let h = s .pre .0 in let l = b .apart .ensures .0 in omega arith) (b .apart .ensures .1)
 
 pub apart-list-spec : {M : Type 1} → statement M
 apart-list-spec = tie.close (tie.spec (λ c κs. search needs) (λ c κs. search needs) returns apart-requires (λ c κs. search needs) returns-2 returns-3)
