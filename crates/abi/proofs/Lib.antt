@@ -1,2 +1,2 @@
 -- The modules of the laws and proofs.
-pub mod Lending
+pub mod LentApart

@@ -1,85 +1,14 @@
-// New, Mark and Receive: the desk goes in and comes out by value.
-ghost use mathlib.Core.Path.{_≡_};
-ghost use Rattle.desk.specs.StateOf.{Kept};
-ghost use Rattle.abi.specs.Exports.{NewExport, MarkExport, ReceiveExport};
-ghost use Rattle.abi.specs.Numbers.{createdNumber, markedNumbers, receivedNumbers};
-use crate::MarkAnswer;
+// New gives a desk by value; Mark works on its lent arrays in place.
+ghost use Rattle.executed.specs.Arrays.{here, found, left};
+ghost use Rattle.desk.specs.Lent.{MarkLent};
+ghost use Rattle.abi.specs.Exports.{NewExport, MarkExport};
 use crate::NewAnswer;
-use crate::ReceiveAnswer;
-use causality::Created;
-use causality::Marked;
-use causality::Received;
 use desk::Desk;
 use frame::MarkBox;
-
-// What Mark answers, in numbers.
-struct Marking {
-    refusal: u8,
-    number: u16,
-    size: usize,
-}
-
-// What Receive answers, in numbers.
-struct Receiving {
-    refusal: u8,
-    kind: u8,
-    executed: u16,
-    dropped: u16,
-}
-
-fn created(answer: Created) -> u8
-    ensures { λ r. ⌜ createdNumber answer ≡ r ⌝ }
-{
-    match answer {
-        Created::Empty => 0,
-        Created::Refused(refusal) => refusal.number(),
-    }
-}
-
-fn marked(answer: Marked) -> Marking
-    ensures { λ r. ⌜ markedNumbers answer ≡ (r .refusal, r .number, r .size) ⌝ }
-{
-    match answer {
-        Marked::Made(number, size) => Marking {
-            refusal: 0,
-            number: number.0,
-            size: size,
-        },
-        Marked::Refused(refusal) => Marking {
-            refusal: refusal.number(),
-            number: 0,
-            size: 0,
-        },
-    }
-}
-
-fn received(answer: Received) -> Receiving
-    ensures { λ r. ⌜ receivedNumbers answer ≡ (r .refusal, r .kind, r .executed, r .dropped) ⌝ }
-{
-    let mut r = Receiving {
-        refusal: 0,
-        kind: 0,
-        executed: 0,
-        dropped: 0,
-    };
-    match answer {
-        Received::Known => {
-            r.kind = 1;
-        }
-        Received::Waiting => {
-            r.kind = 2;
-        }
-        Received::Executed(k, f) => {
-            r.kind = 3;
-            r.executed = k;
-            r.dropped = f;
-        }
-        Received::Refused(refusal) => {
-            r.refusal = refusal.number();
-        }
-    }
-    r
-}
+use numbers::MarkAnswer;
+use rows::BOX;
+use rows::PLACES;
+use rows::WIDTH;
 
 #[no_mangle]
 pub extern "C" fn kaungimewe_new(own: u8) -> NewAnswer
@@ -90,56 +19,53 @@ pub extern "C" fn kaungimewe_new(own: u8) -> NewAnswer
     let answer = made.answer;
     NewAnswer {
         desk: desk,
-        refusal: created(answer),
+        refusal: numbers::created(answer),
     }
 }
 
+// Where so many marks wait.
 #[no_mangle]
-pub extern "C" fn kaungimewe_mark(
-    desk: Desk,
+pub extern "C" fn kaungimewe_mark_lent(
+    own: u8,
+    count: &mut usize,
+    desks: &mut [u8; PLACES],
+    numbers: &mut [u16; PLACES],
+    boxes: &mut [u32; PLACES * BOX],
+    stamps: &mut [u16; PLACES * WIDTH],
+    tally: &mut [u16; WIDTH],
+    heads: &mut [u16; WIDTH],
+    last: &mut [u16; WIDTH],
+    before: &mut [u16; PLACES],
+    waiting: usize,
     start: u32,
     end: u32,
     low: u32,
     high: u32,
     out: &mut [u8],
 ) -> MarkAnswer
-    requires { ⌜ Kept desk ⌝ }
-    ensures { λ r. ⌜ MarkExport desk (record { start = start; end = end; low = low; high = high }) (now (out .entry)) (now (out .exit)) r ⌝ }
+    requires { ⌜ MarkLent own waiting (here count desks numbers boxes stamps tally heads last before) ⌝ }
+    ensures { λ r. ⌜ MarkExport own waiting (found count desks numbers boxes stamps tally heads last before)
+        (left count desks numbers boxes stamps tally heads last before) (record { start = start; end = end; low = low; high = high }) out r ⌝ }
 {
-    let made = desk.mark(
-        MarkBox {
-            start: start,
-            end: end,
-            low: low,
-            high: high,
-        },
+    let extent = MarkBox {
+        start: start,
+        end: end,
+        low: low,
+        high: high,
+    };
+    numbers::marked(desk::mark::marking(
+        own,
+        count,
+        desks,
+        numbers,
+        boxes,
+        stamps,
+        tally,
+        heads,
+        last,
+        before,
+        waiting,
+        extent,
         out,
-    );
-    let after = made.desk;
-    let answer = made.answer;
-    let n = marked(answer);
-    MarkAnswer {
-        desk: after,
-        refusal: n.refusal,
-        number: n.number,
-        size: n.size,
-    }
-}
-
-#[no_mangle]
-pub extern "C" fn kaungimewe_receive(desk: Desk, frame: &[u8]) -> ReceiveAnswer
-    requires { ⌜ Kept desk ⌝ }
-    ensures { λ r. ⌜ ReceiveExport desk (now (frame .entry)) r ⌝ }
-{
-    let got = desk.receive(frame);
-    let after = got.desk;
-    let answer = got.answer;
-    let n = received(answer);
-    ReceiveAnswer {
-        desk: after,
-        refusal: n.refusal,
-        kind: n.kind,
-        executed: n.executed,
-        dropped: n.dropped,
-    }
+    ))
 }

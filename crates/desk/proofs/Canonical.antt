@@ -3,32 +3,30 @@ use Prim.Native.Nat.{_*_, _+_, _-_, _<_, suc, zero, ℕ}
 use lib.Dec.{ltb, ltb→lt, nltb→le}
 use lib.ListN.{getD, length}
 use lib.Seq.{ext-getD}
-use mathlib.Core.List.{List, [], _∷_, map}
+use mathlib.Core.List.{List, [], _∷_}
 use mathlib.Core.Logic.{inl, inr}
 use mathlib.Core.Path.{_∙_, _≡_, ap, refl, subst, sym}
 use native.Mathlib.Nat.{add-zero, suc-mul, zero-mul}
 use native.Mathlib.Numerals.{sub-one}
 use native.Mathlib.Omega.{arith}
-use Rattle.waiting.specs.declared.Held.{Held}
-use Rattle.waiting.specs.declared.Waiting.{Waiting}
 use Rattle.desk.specs.declared.Desk.{Desk}
 use Rattle.desk.specs.declared.MarkedDesk.{MarkedDesk}
 use Rattle.desk.specs.declared.ReceivedDesk.{ReceivedDesk}
 use Rattle.frame.specs.declared.MarkBox.{MarkBox}
 use Rattle.frame.specs.Answer.{refused}
 use Rattle.frame.specs.Mark.{MarkId, desks}
-use Rattle.causality.specs.Marks.{places}
+use Rattle.causality.specs.Marks.{places, waitingPlaces}
 use Rattle.causality.specs.Meaning.{numbering, reception}
-use Rattle.causality.specs.State.{Mark, State}
+use Rattle.causality.specs.State.{Mark, State, ids}
 use Rattle.causality.proofs.Logic.{split}
 use Rattle.causality.proofs.Refusals.{mark-refused, receive-refused}
 use Rattle.causality.proofs.RowLaws.{entriesOfRow, row-of-entries}
 use Rattle.causality.proofs.Rows.{rowOf}
-use Rattle.rows.specs.View.{ZeroFrom, boxAt, markAt, rowAt, rowFn, view, width}
-use Rattle.waiting.specs.Queue.{Queued, heldMark, heldsOf, noHeld}
+use Rattle.rows.specs.View.{Slots, ZeroFrom, boxAt, markAt, rowAt, view, width}
+use Rattle.rows.proofs.Arrays.{view-length}
+use Rattle.executed.specs.Rows.{Chained, Rows}
 use Rattle.desk.specs.Promises.{MarkPromise, ReceivePromise}
 use Rattle.desk.specs.StateOf.{Kept, stateOf}
-use Rattle.desk.proofs.Invariant.{executed-length, waiting-length}
 
 -- Numbers of which those from the k-th on are zero are settled by those before it.
 zero-ext : (n k m : ℕ) (xs ys : List ℕ) → ZeroFrom xs n k → ZeroFrom ys n m → k ≡ m → ((q : ℕ) → q < k → getD xs q 0 ≡ getD ys q 0) → xs ≡ ys
@@ -66,15 +64,6 @@ unfolding view
 view-down n zero ds ns bs ss = refl
 view-down n (suc p) ds ns bs ss = ap (λ (l : List Mark). markAt n ds ns bs ss p ∷ l) (view-down n p ds ns bs ss)
 
--- The mark in a slot.
-abbrev slotMark : List Held → ℕ → Mark
-slotMark hs p = heldMark (getD hs p noHeld)
-
-helds-down : (count : ℕ) (hs : List Held) → map heldMark (heldsOf count hs) ≡ down (slotMark hs) count
-unfolding heldsOf
-helds-down zero hs = refl
-helds-down (suc p) hs = ap (λ (l : List Mark). slotMark hs p ∷ l) (helds-down p hs)
-
 -- Rows of the same entries have the same counts.
 row-same : (n : ℕ) (r s : ℕ → ℕ) → entriesOfRow n r ≡ entriesOfRow n s → (j : ℕ) → j < n → r (suc j) ≡ s (suc j)
 row-same n r s e j h =
@@ -92,60 +81,69 @@ box-same xs ys p e (suc (suc zero)) h = ap (λ (b : MarkBox). b .low) e
 box-same xs ys p e (suc (suc (suc zero))) h = ap (λ (b : MarkBox). b .high) e
 box-same xs ys p e (suc (suc (suc (suc j)))) h = let z : ⊥ = omega arith in absurd z
 
-held-same : (a b : Held) → length (a .row) ≡ width → length (b .row) ≡ width → heldMark a ≡ heldMark b → a ≡ b
-held-same a b la lb e =
-    let d = ap (λ (m : Mark). m .id .desk) e in
-    let n = ap (λ (m : Mark). m .id .number) e in
-    let x = ap (λ (m : Mark). m .extent) e in
-    let r = ext-getD 0 (a .row) (b .row) (la ∙ sym lb)
-    (λ j h. subst (λ (k : ℕ). getD (a .row) k 0 ≡ getD (b .row) k 0) (sub-one (suc j)) (row-same width (rowFn (a .row)) (rowFn (b .row)) (ap (λ (m : Mark). m .stamp) e) j (omega arith))) in
-    λ i. record { desk = d i; number = record { 0 = n i }; extent = x i; row = r i }
+-- Arrays whose unused slots are zero are settled by the marks that they are.
+slots-same : (n c c′ : ℕ) (ds ns bs ss ds′ ns′ bs′ ss′ : List ℕ) → Slots n c ds ns bs ss → Slots n c′ ds′ ns′ bs′ ss′
+    → view width c ds ns (boxAt bs) ss ≡ view width c′ ds′ ns′ (boxAt bs′) ss′ → (c ≡ c′) × (ds ≡ ds′) × (ns ≡ ns′) × (bs ≡ bs′) × (ss ≡ ss′)
+slots-same n c c′ ds ns bs ss ds′ ns′ bs′ ss′ u v e = (
+  same,
+  zero-ext n c c′ ds ds′ (u .desks) (v .desks) same (λ p h. ap (λ (m : Mark). m .id .desk) (at p h)),
+  zero-ext n c c′ ns ns′ (u .numbers) (v .numbers) same (λ p h. ap (λ (m : Mark). m .id .number) (at p h)),
+  zero-ext (n * 4) (c * 4) (c′ * 4) bs bs′ (u .boxes) (v .boxes) (ap (λ (k : ℕ). k * 4) same) (by-rows 4 c bs bs′ (λ p j h. box-same bs bs′ p (ap (λ (m : Mark). m .extent) (at p h)) j)),
+  zero-ext (n * width) (c * width) (c′ * width) ss ss′ (u .stamps) (v .stamps) (ap (λ (k : ℕ). k * width) same) (by-rows width c ss ss′ (λ p j h. stamp-same width ss ss′ p (ap (λ (m : Mark). m .stamp) (at p h)) j)),
+)
+  where
+    same : c ≡ c′
+    same = sym (view-length width c ds ns (boxAt bs) ss) ∙ ap length e ∙ view-length width c′ ds′ ns′ (boxAt bs′) ss′
 
-queue-same : (q r : Waiting) → Queued q → Queued r → q .count ≡ r .count → down (slotMark (q .held)) (q .count) ≡ down (slotMark (r .held)) (q .count) → q ≡ r
-queue-same q r oq or c e =
-    let hs = ext-getD noHeld (q .held) (r .held) (oq .long ∙ sym (or .long)) (λ p l. elim (split (ltb p (q .count))) [
-      | inl t ↦ held-same (getD (q .held) p noHeld) (getD (r .held) p noHeld) (oq .rows p) (or .rows p) (down-at (slotMark (q .held)) (slotMark (r .held)) (q .count) e p (ltb→lt p (q .count) t))
-      | inr t ↦ let h = nltb→le p (q .count) t in oq .unused p h ∙ sym (or .unused p (omega arith))
-    ]) in
-    λ i. record { count = c i; held = hs i }
+    at : (p : ℕ) → p < c → markAt width ds ns (boxAt bs) ss p ≡ markAt width ds′ ns′ (boxAt bs′) ss′ p
+    at = down-at (markAt width ds ns (boxAt bs) ss) (markAt width ds′ ns′ (boxAt bs′) ss′) c
+        (sym (view-down width c ds ns (boxAt bs) ss) ∙ e ∙ view-down width c′ ds′ ns′ (boxAt bs′) ss′ ∙ ap (down (markAt width ds′ ns′ (boxAt bs′) ss′)) (sym same))
 
--- The mark at a place.
-abbrev placed : Desk → ℕ → Mark
-placed d = markAt width (d .desks) (d .numbers) (boxAt (d .boxes)) (d .stamps)
+-- The chain is settled by the names.
+chained-same : (is : List MarkId) (bf bf′ : List ℕ) → Chained is bf → Chained is bf′ → (p : ℕ) → p < length is → getD bf p 0 ≡ getD bf′ p 0
+chained-same [] bf bf′ c c′ p h = let z : ⊥ = omega arith in absurd z
+chained-same (i ∷ is) bf bf′ c c′ p h = elim (split (ltb p (length is))) [
+  | inl t ↦ chained-same is bf bf′ (c .1) (c′ .1) p (ltb→lt p (length is) t)
+  | inr t ↦ let q = nltb→le p (length is) t in let s : length is ≡ p = omega arith in subst (λ (x : ℕ). getD bf x 0 ≡ getD bf′ x 0) s (c .0 ∙ sym (c′ .0))
+]
 
-module _ (d e : Desk) (same : stateOf d ≡ stateOf e) where
-  count-same : d .count ≡ e .count
-  count-same = sym (executed-length d) ∙ ap (λ (st : State). length (st .executed)) same ∙ executed-length e
-
-  mark-same : (p : ℕ) → p < d .count → placed d p ≡ placed e p
-  mark-same = down-at (placed d) (placed e) (d .count)
-      (sym (view-down width (d .count) (d .desks) (d .numbers) (boxAt (d .boxes)) (d .stamps)) ∙ ap (λ (st : State). st .executed) same
-      ∙ view-down width (e .count) (e .desks) (e .numbers) (boxAt (e .boxes)) (e .stamps) ∙ ap (down (placed e)) (sym count-same))
-
-  waiting-same : Queued (d .queue) → Queued (e .queue) → d .queue ≡ e .queue
-  waiting-same od oe = queue-same (d .queue) (e .queue) od oe c
-      (sym (helds-down (d .queue .count) (d .queue .held)) ∙ ap (λ (st : State). st .waiting) same
-      ∙ helds-down (e .queue .count) (e .queue .held) ∙ ap (down (slotMark (e .queue .held))) (sym c))
-    where
-      c : d .queue .count ≡ e .queue .count
-      c = sym (waiting-length d) ∙ ap (λ (st : State). length (st .waiting)) same ∙ waiting-length e
+-- The kept rows are settled by the executed marks.
+rows-same : (l : List Mark) (ts hs ls bf ts′ hs′ ls′ bf′ : List ℕ) → Rows l ts hs ls bf → Rows l ts′ hs′ ls′ bf′
+    → (ts ≡ ts′) × (hs ≡ hs′) × (ls ≡ ls′) × (bf ≡ bf′)
+rows-same l ts hs ls bf ts′ hs′ ls′ bf′ r r′ =
+    let a = r .long-tally in
+    let b = r .long-heads in
+    let c = r .long-last in (
+      ext-getD 0 ts ts′ (a ∙ sym (r′ .long-tally)) (λ j q. r .tally j (omega arith) ∙ sym (r′ .tally j (omega arith))),
+      ext-getD 0 hs hs′ (b ∙ sym (r′ .long-heads)) (λ j q. r .heads j (omega arith) ∙ sym (r′ .heads j (omega arith))),
+      ext-getD 0 ls ls′ (c ∙ sym (r′ .long-last)) (λ j q. r .last j (omega arith) ∙ sym (r′ .last j (omega arith))),
+      zero-ext places (length (ids l)) (length (ids l)) bf bf′ (r .unused) (r′ .unused) refl (chained-same (ids l) bf bf′ (r .before) (r′ .before)),
+    )
 
 -- Two kept desks with the same executed and waiting marks are one value.
 pub one-desk : (d e : Desk) → Kept d → Kept e → stateOf d ≡ stateOf e → d ≡ e
 one-desk d e kd ke s =
-    let ud = kd .unused in
-    let ue = ke .unused in
-    let c = count-same d e s in
-    let at = mark-same d e s in
     let o = ap (λ (st : State). st .own) s in
-    let ds = zero-ext places (d .count) (e .count) (d .desks) (e .desks) (ud .desks) (ue .desks) c (λ p h. ap (λ (m : Mark). m .id .desk) (at p h)) in
-    let ns = zero-ext places (d .count) (e .count) (d .numbers) (e .numbers) (ud .numbers) (ue .numbers) c (λ p h. ap (λ (m : Mark). m .id .number) (at p h)) in
-    let bs = zero-ext (places * 4) (d .count * 4) (e .count * 4) (d .boxes) (e .boxes) (ud .boxes) (ue .boxes) (ap (λ (k : ℕ). k * 4) c)
-    (by-rows 4 (d .count) (d .boxes) (e .boxes) (λ p j h. box-same (d .boxes) (e .boxes) p (ap (λ (m : Mark). m .extent) (at p h)) j)) in
-    let ss = zero-ext (places * width) (d .count * width) (e .count * width) (d .stamps) (e .stamps) (ud .stamps) (ue .stamps) (ap (λ (k : ℕ). k * width) c)
-    (by-rows width (d .count) (d .stamps) (e .stamps) (λ p j h. stamp-same width (d .stamps) (e .stamps) p (ap (λ (m : Mark). m .stamp) (at p h)) j)) in
-    let q = waiting-same d e s (ud .queue) (ue .queue) in
-    λ i. record { own = o i; count = c i; desks = ds i; numbers = ns i; boxes = bs i; stamps = ss i; queue = q i }
+    let l = ap (λ (st : State). st .executed) s in
+    let x = slots-same places (d .count) (e .count) (d .desks) (d .numbers) (d .boxes) (d .stamps) (e .desks) (e .numbers) (e .boxes) (e .stamps) (kd .ordered .slots) (ke .ordered .slots) l in
+    let rs = rows-same ((stateOf d) .executed) (d .tally) (d .heads) (d .last) (d .before) (e .tally) (e .heads) (e .last) (e .before) (kd .ordered .rows)
+    (subst (λ (m : List Mark). Rows m (e .tally) (e .heads) (e .last) (e .before)) (sym l) (ke .ordered .rows)) in
+    let q = d .queue in
+    let r = e .queue in
+    let w = slots-same waitingPlaces (q .count) (r .count) (q .desks) (q .numbers) (q .boxes) (q .stamps) (r .desks) (r .numbers) (r .boxes) (r .stamps) (kd .queued .slots) (ke .queued .slots) (ap (λ (st : State). st .waiting) s) in
+    λ i. record {
+      own = o i;
+      count = x .0 i;
+      desks = x .1 i;
+      numbers = x .2 i;
+      boxes = x .3 i;
+      stamps = x .4 i;
+      tally = rs .0 i;
+      heads = rs .1 i;
+      last = rs .2 i;
+      before = rs .3 i;
+      queue = record { count = w .0 i; desks = w .1 i; numbers = w .2 i; boxes = w .3 i; stamps = w .4 i };
+    }
 
 -- A refused Receive returns the very desk.
 pub refused-receive : (d : Desk) (s : List ℕ) (r : ReceivedDesk) (c : ℕ) → Kept d → ReceivePromise d s r → reception (r .answer) ≡ refused c → r .desk ≡ d

@@ -8,7 +8,7 @@ use Rattle.frame.specs.declared.Refusal.the-variants.{NotExecuted}
 use Rattle.frame.specs.declared.Writing.{Writing}
 use Rattle.frame.specs.declared.Writing.the-variants.{Refused as NotWritten}
 use Rattle.causality.specs.declared.MarkId.{MarkId}
-use Rattle.waiting.specs.declared.Held.{Held}
+use Rattle.rows.specs.declared.Held.{Held}
 use Rattle.desk.specs.declared.Desk.{Desk}
 use Rattle.frame.specs.Answer.{refused}
 use Rattle.frame.specs.Frame.{overIf, writing}
@@ -17,12 +17,10 @@ use Rattle.causality.specs.Calls.{frameAgainBytes, frameAgainSize, frameOfMark,
 use Rattle.causality.specs.Marks.{find}
 use Rattle.causality.specs.Meaning.{idOf}
 use Rattle.causality.specs.State.{Mark, markId}
-use Rattle.rows.specs.View.{boxAt, markAt, width}
-use Rattle.waiting.specs.Queue.{heldMark}
+use Rattle.rows.specs.View.{boxAt, heldMark, markAt, placeAt, width}
 use Rattle.desk.specs.Promises.{FrameAgainPromise}
 use Rattle.desk.specs.StateOf.{stateOf}
 use Rattle.rows.proofs.Places.{found-none, found-some}
-use Rattle.queries.proofs.Relating.{FoundAt}
 
 module _ (d : Desk) (a : MarkId) (out : List ℕ) where
   -- The definition where it is known what is found.
@@ -36,7 +34,7 @@ module _ (d : Desk) (a : MarkId) (out : List ℕ) where
   unfolding frameAgainBytes
   bytes-by o e = λ i. elim (e i) [ none ↦ out | some m ↦ overIf (sizeOfMark desks m (length out)) (frameOfMark desks m) out ]
 
-  module _ (p : ℕ) (f : FoundAt (d .count) (d .desks) (d .numbers) (boxAt (d .boxes)) (d .stamps) (d .own) ((stateOf d) .waiting) (idOf a) p) where
+  module _ (p : ℕ) (f : placeAt width (d .count) p (d .desks) (d .numbers) (boxAt (d .boxes)) (d .stamps) ≡ find markId (idOf a) ((stateOf d) .executed)) where
     pub not-executed : d .count ≤ p → FrameAgainPromise d a out out (record { desk = d; answer = NotWritten NotExecuted })
     not-executed h =
         let e = found-none width (d .desks) (d .numbers) (boxAt (d .boxes)) (d .stamps) (d .count) p (idOf a) h f .0 in

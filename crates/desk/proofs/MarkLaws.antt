@@ -2,31 +2,30 @@
 use Prim.Native.Nat.{_+_, _-_, _<_, _≤_, suc, ℕ}
 use lib.Dec.{T}
 use lib.ListN.{getD, length, take}
-use mathlib.Core.List.{List}
-use mathlib.Core.Path.{_∙_, _≡_, ap, refl}
+use mathlib.Core.List.{List, _∷_}
+use mathlib.Core.Path.{_∙_, _≡_, ap, refl, subst, sym}
 use native.Mathlib.Omega.{arith}
 use Rattle.frame.specs.declared.MarkBox.{MarkBox}
-use Rattle.waiting.specs.declared.Held.{Held}
+use Rattle.rows.specs.declared.Held.{Held}
 use Rattle.desk.specs.declared.Desk.{Desk}
 use Rattle.frame.specs.Answer.{Answer}
 use Rattle.frame.specs.Frame.{entryBytes, ours, overIf, writeBytes, writeSize}
 use Rattle.frame.specs.Mark.{MarkId, desks}
 use Rattle.causality.specs.Calls.{fieldsOfMark, frameOfMark, newMark, sizeOfMark}
-use Rattle.causality.specs.Marks.{has, tally}
+use Rattle.causality.specs.Marks.{has, places, tally}
 use Rattle.causality.specs.State.{Mark, heads, ids}
 use Rattle.causality.proofs.Fit.{Range}
 use Rattle.causality.proofs.Lists.{all-ids, all-map, tally-length}
 use Rattle.causality.proofs.Numbers.{heads-strict}
 use Rattle.causality.proofs.Past.{Standing, heads-has}
-use Rattle.causality.proofs.Reach.{local, local-hist}
+use Rattle.causality.proofs.Reach.{Sound, local, local-hist, mark-sound}
 use Rattle.causality.proofs.RowLaws.{entriesOfRow}
 use Rattle.causality.proofs.Rows.{rowOf}
-use Rattle.rows.specs.View.{noBox, rowFn, view, width}
-use Rattle.waiting.specs.Queue.{heldMark}
-use Rattle.desk.specs.StateOf.{Kept, stateOf}
-use Rattle.rows.proofs.Arrays.{view-length}
+use Rattle.rows.specs.View.{heldMark, rowFn, width}
+use Rattle.executed.specs.Arrays.{Takes}
+use Rattle.desk.specs.StateOf.{Kept, arraysOf, stateOf}
 use Rattle.rows.proofs.ByRows.{row-at, row-entries}
-use Rattle.desk.proofs.Invariant.{kept-fit, kept-own, kept-sound}
+use Rattle.desk.proofs.Invariant.{executed-length, kept-count, kept-fit, kept-own, kept-sound}
 
 -- A part of an array from its start on is its first elements.
 pub first-part : (bytes : List ℕ) (size : ℕ) → take (size - 0) bytes ≡ take size bytes
@@ -43,16 +42,7 @@ module _ (h : Held) (es : List ℕ) (e : es ≡ entryBytes (entriesOfRow width (
   unfolding sizeOfMark frameOfMark fieldsOfMark writeBytes
   held-bytes out after f = f ∙ ap (λ (x : List ℕ). writeBytes ours (record { desk = h .desk; number = h .number; extent = h .extent }) x out) e
 
--- No count of a tally is above the number of marks.
-pub tally-small : (count : ℕ) (ds t : List ℕ) → ((ns ss : List ℕ) (bs : ℕ → MarkBox) (j : ℕ) → j < width → getD t j 0 ≡ tally (suc j) (ids (view width count ds ns bs ss)))
-    → (j : ℕ) → j < width → getD t j 0 ≤ count
-tally-small count ds t f j l =
-    let e = f ds ds (λ p. noBox) j l in
-    let a = tally-length (suc j) (view width count ds ds (λ p. noBox) ds) in
-    let n = view-length width count ds ds (λ p. noBox) ds in
-    omega arith
-
--- What `rows::tally` and `rows::heads` ensure of a kept desk's rows.
+-- The next mark of a kept desk, by its kept rows.
 module _ (d : Desk) (k : Kept d) where
   own-count : (t : List ℕ) → ((j : ℕ) → j < width → getD t j 0 ≡ tally (suc j) (ids ((stateOf d) .executed))) → getD t (d .own - 1) 0 ≡ tally (d .own) (ids ((stateOf d) .executed))
   own-count t f = row-at width t (λ e. tally e (ids ((stateOf d) .executed))) f (d .own) (kept-own d k .0) (kept-own d k .1)
@@ -71,11 +61,33 @@ module _ (d : Desk) (k : Kept d) where
           let r = all-ids (Range desks) l (all-map (λ m f. f .range) l (kept-fit d k)) e ((heads-has (local l) l e t) .0) in
           (r .low, r .high, r .first)
 
-  pub next-mark : (b : MarkBox) (t row : List ℕ) → ((j : ℕ) → j < width → getD t j 0 ≡ tally (suc j) (ids ((stateOf d) .executed)))
-      → ((j : ℕ) → j < width → getD row j 0 ≡ rowOf (heads ((stateOf d) .executed)) (suc j))
-      → heldMark (record { desk = d .own; number = record { 0 = getD t (d .own - 1) 0 + 1 }; extent = b; row = row }) ≡ newMark (stateOf d) b
+  -- No count is above the number of places.
+  pub tally-small : getD (d .tally) (d .own - 1) 0 ≤ places
+  tally-small =
+      let e = own-count (d .tally) (k .ordered .rows .tally) in
+      let a = tally-length (d .own) ((stateOf d) .executed) in
+      let n = executed-length d in
+      let c = kept-count d k in
+      omega arith
+
+  pub next-mark : (b : MarkBox)
+      → heldMark (record { desk = d .own; number = record { 0 = getD (d .tally) (d .own - 1) 0 + 1 }; extent = b; row = d .heads }) ≡ newMark (stateOf d) b
   unfolding newMark
-  next-mark b t row f g =
-      let e : getD t (d .own - 1) 0 + 1 ≡ suc (tally (d .own) (ids ((stateOf d) .executed))) = let x = own-count t f in omega arith in
-      let s = heads-stamp row g in
+  next-mark b =
+      let e : getD (d .tally) (d .own - 1) 0 + 1 ≡ suc (tally (d .own) (ids ((stateOf d) .executed))) = let x = own-count (d .tally) (k .ordered .rows .tally) in omega arith in
+      let s = heads-stamp (d .heads) (k .ordered .rows .heads) in
       λ i. record { id = record { desk = d .own; number = e i }; extent = b; stamp = s i }
+
+  -- The next place may take it.
+  pub mark-takes : (b : MarkBox) (h : Held) → heldMark h ≡ newMark (stateOf d) b → d .count < places → Takes h (arraysOf d)
+  unfolding newMark
+  mark-takes b h e l =
+      let o : h .desk ≡ d .own = ap (λ (m : Mark). m .id .desk) e in
+      let w = kept-own d k in
+      record {
+        ordered = k .ordered;
+        room = l;
+        low = omega arith;
+        high = omega arith;
+        sound = subst (λ (m : Mark). Sound (m ∷ (stateOf d) .executed)) (sym e) (mark-sound (stateOf d) b (kept-sound d k), kept-sound d k);
+      }

@@ -11,7 +11,7 @@ use Rattle.frame.specs.declared.MarkBox.{MarkBox}
 use Rattle.frame.specs.declared.Refusal.{Refusal}
 use Rattle.frame.specs.declared.Refusal.the-variants.{DeskFull, FieldRange}
 use Rattle.causality.specs.declared.Marked.the-variants.{Made, Refused as NotMarked}
-use Rattle.waiting.specs.declared.Held.{Held}
+use Rattle.rows.specs.declared.Held.{Held}
 use Rattle.desk.specs.declared.Desk.{Desk}
 use Rattle.desk.specs.declared.MarkedDesk.{MarkedDesk}
 use Rattle.frame.specs.Answer.{Answer, gives, numberOf, refuseIf, refused}
@@ -22,10 +22,12 @@ use Rattle.causality.specs.Calls.{FromCalls, Marked, execute, frameOfMark, full
 use Rattle.causality.specs.Marks.{places}
 use Rattle.causality.specs.Meaning.{numbering}
 use Rattle.causality.specs.State.{Mark, State}
-use Rattle.waiting.specs.Queue.{heldMark}
+use Rattle.rows.specs.View.{heldMark}
+use Rattle.executed.specs.Arrays.{Arrays, Ordered, Took}
+use Rattle.waiting.specs.Queue.{Queued}
 use Rattle.desk.specs.Promises.{MarkPromise}
-use Rattle.desk.specs.StateOf.{Kept, Unused, stateOf}
-use Rattle.desk.specs.Steps.{Executes}
+use Rattle.desk.specs.StateOf.{Kept, arraysOf, stateOf}
+use Rattle.desk.specs.Lent.{deskOf}
 use Rattle.desk.proofs.Invariant.{executed-length, kept-total, waiting-length}
 
 -- The definition where its tests and the writer's answer are known.
@@ -55,16 +57,26 @@ module _ (d : Desk) where
   pub counts-place : Kept d → (d .count + d .queue .count ≡ places → ⊥) → d .count < places
   counts-place k f = let l = kept-total d k in omega arith
 
+  -- With so many waiting marks.
+  pub is-full : Kept d → (n : ℕ) → d .queue .count ≡ n → d .count + n ≡ places → full (stateOf d) ≡ true
+  is-full k n e f = counts-full (ap (λ (x : ℕ). d .count + x) e ∙ f)
+
+  pub has-room : Kept d → (n : ℕ) → d .queue .count ≡ n → (d .count + n ≡ places → ⊥) → full (stateOf d) ≡ false
+  has-room k n e f = counts-room (λ z. f (ap (λ (x : ℕ). d .count + x) (sym e) ∙ z))
+
+  pub place-left : Kept d → (n : ℕ) → d .queue .count ≡ n → (d .count + n ≡ places → ⊥) → d .count < places
+  place-left k n e f = counts-place k (λ z. f (ap (λ (x : ℕ). d .count + x) (sym e) ∙ z))
+
 module _ (d : Desk) (k : Kept d) (b : MarkBox) (out : List ℕ) where
   -- What came of the call is a desk that came from the calls.
   promised : (after : List ℕ) (r : MarkedDesk) (a : Answer Numbered) → markAnswer desks (stateOf d) b (length out) ≡ a
       → stateOf (r .desk) ≡ stateIf a (execute (newMark (stateOf d) b) (stateOf d)) (stateOf d) → numbering (r .answer) ≡ a
-      → after ≡ overIf a (frameOfMark desks (newMark (stateOf d) b)) out → Unused (r .desk) → MarkPromise d b out after r
-  promised after r a e s n o u = record {
+      → after ≡ overIf a (frameOfMark desks (newMark (stateOf d) b)) out → Ordered (arraysOf (r .desk)) → Queued (r .desk .queue) → MarkPromise d b out after r
+  promised after r a e s n o u rs = record {
     state = state;
     answer = n ∙ ap (λ (m : Marked). m .answer) by;
     bytes = o ∙ ap (λ (m : Marked). m .bytes) by;
-    kept = record { from = subst (λ (st : State). FromCalls desks st) (sym state) (marked (k .from) b out); unused = u };
+    kept = record { from = subst (λ (st : State). FromCalls desks st) (sym state) (marked (k .from) b out); ordered = u; queued = rs };
   }
     where
       by : record { state = stateIf a (execute (newMark (stateOf d) b) (stateOf d)) (stateOf d); answer = a; bytes = overIf a (frameOfMark desks (newMark (stateOf d) b)) out } ≡ mark desks (stateOf d) b out
@@ -74,7 +86,7 @@ module _ (d : Desk) (k : Kept d) (b : MarkBox) (out : List ℕ) where
       state = s ∙ ap (λ (m : Marked). m .state) by
 
   refusing : (c : Refusal) (after : List ℕ) → markAnswer desks (stateOf d) b (length out) ≡ refused (numberOf c) → after ≡ out → MarkPromise d b out after (record { desk = d; answer = NotMarked c })
-  refusing c after e o = promised after (record { desk = d; answer = NotMarked c }) (refused (numberOf c)) e refl refl o (k .unused)
+  refusing c after e o = promised after (record { desk = d; answer = NotMarked c }) (refused (numberOf c)) e refl refl o (k .ordered) (k .queued)
 
   pub box-refused : boxRule b ≡ false → MarkPromise d b out out (record { desk = d; answer = NotMarked FieldRange })
   box-refused e = refusing FieldRange out (answer-by (stateOf d) b out false (full (stateOf d)) (sizeOfMark desks (newMark (stateOf d) b) (length out)) e refl refl) refl
@@ -95,9 +107,9 @@ module _ (d : Desk) (k : Kept d) (b : MarkBox) (out : List ℕ) where
     write-refused c e = refusing c after (answered ∙ ap (numbered (newMark (stateOf d) b .id .number)) e)
         (written ∙ ap (λ (x : Answer ℕ). overIf x (frameOfMark desks (newMark (stateOf d) b)) out) e)
 
-    pub made : (n : ℕ) (r : Desk) → w ≡ gives n → Executes d h r → MarkPromise d b out after (record { desk = r; answer = Made (h .number) n })
-    made n r e x = promised after (record { desk = r; answer = Made (h .number) n }) (gives (record { number = newMark (stateOf d) b .id .number; size = n }))
+    pub made : (n : ℕ) (a : Arrays) → w ≡ gives n → Took h (arraysOf d) a → MarkPromise d b out after (record { desk = deskOf (d .own) a (d .queue); answer = Made (h .number) n })
+    made n a e x = promised after (record { desk = deskOf (d .own) a (d .queue); answer = Made (h .number) n }) (gives (record { number = newMark (stateOf d) b .id .number; size = n }))
         (answered ∙ ap (numbered (newMark (stateOf d) b .id .number)) e)
-        (x .state ∙ ap (λ (m : Mark). execute m (stateOf d)) next)
+        ((λ i. record { own = d .own; executed = x .marks i; waiting = (stateOf d) .waiting }) ∙ ap (λ (m : Mark). execute m (stateOf d)) next)
         (ap (λ (m : Mark). gives (record { number = m .id .number; size = n })) next)
-        (written ∙ ap (λ (y : Answer ℕ). overIf y (frameOfMark desks (newMark (stateOf d) b)) out) e) (x .unused)
+        (written ∙ ap (λ (y : Answer ℕ). overIf y (frameOfMark desks (newMark (stateOf d) b)) out) e) (x .ordered) (k .queued)

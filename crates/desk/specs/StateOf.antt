@@ -1,30 +1,22 @@
 -- The state that a desk of the code is, and which desks came from New and the calls.
-use mathlib.Core.List.{map}
-use Prim.Native.Nat.{_*_}
-use Rattle.frame.specs.Mark.{desks}
-use Rattle.causality.specs.Marks.{places}
 use Rattle.causality.specs.State.{State}
-use Rattle.causality.specs.Calls.{FromCalls}
-use Rattle.rows.specs.View.{width, view, boxAt, ZeroFrom}
-use Rattle.waiting.specs.Queue.{heldMark, heldsOf, Queued}
+use Rattle.rows.specs.View.{width, view, boxAt}
+use Rattle.executed.specs.Arrays.{Arrays, arrays}
+use Rattle.waiting.specs.Queue.{waitingIn}
+use Rattle.arrivals.specs.Kept.{KeptIn}
 use Rattle.desk.specs.declared.Desk.{Desk}
 
 abbrev pub stateOf : Desk → State
 stateOf d = record {
   own = d .own;
   executed = view width (d .count) (d .desks) (d .numbers) (boxAt (d .boxes)) (d .stamps);
-  waiting = map heldMark (heldsOf (d .queue .count) (d .queue .held));
+  waiting = waitingIn (d .queue);
 }
 
--- Unused slots are zero.
-pub record Unused (d : Desk) : Type 0 where
-  pub desks : ZeroFrom (d .desks) places (d .count)
-  pub numbers : ZeroFrom (d .numbers) places (d .count)
-  pub boxes : ZeroFrom (d .boxes) (places * 4) (d .count * 4)
-  pub stamps : ZeroFrom (d .stamps) (places * width) (d .count * width)
-  pub queue : Queued (d .queue)
+-- The arrays of its executed marks.
+abbrev pub arraysOf : Desk → Arrays
+arraysOf d = arrays (d .count) (d .desks) (d .numbers) (d .boxes) (d .stamps) (d .tally) (d .heads) (d .last) (d .before)
 
--- A desk that came from New and the calls: the one thing that a contract supposes.
-pub record Kept (d : Desk) : Type 0 where
-  pub from : FromCalls desks (stateOf d)
-  pub unused : Unused d
+-- A desk that came from New and the calls: the one thing that a contract supposes. Unused slots are zero, and what is kept of the executed marks is theirs.
+abbrev pub Kept : Desk → Type 0
+Kept d = KeptIn (d .own) (arraysOf d) (d .queue)

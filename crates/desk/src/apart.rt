@@ -31,6 +31,9 @@ impl Desk {
             &self.numbers,
             &self.stamps,
             self.count,
+            &self.tally,
+            &self.last,
+            &self.before,
             a,
             room,
         );
@@ -49,6 +52,9 @@ impl Desk {
             &self.numbers,
             &self.stamps,
             self.count,
+            &self.tally,
+            &self.last,
+            &self.before,
             a,
             room,
         )

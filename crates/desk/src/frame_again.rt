@@ -1,13 +1,9 @@
 // Frame again: the frame of an executed mark is written out.
-ghost use Prim.Native.Nat.{ℕ, _≤_};
-ghost use Rattle.causality.specs.Marks.{places};
-ghost use Rattle.waiting.specs.declared.Waiting.{Waiting};
+ghost use Rattle.desk.specs.Lent.{SomeDesk, EachDesk, againLent};
 ghost use Rattle.desk.specs.Promises.{FrameAgainPromise};
 ghost use Rattle.desk.specs.StateOf.{Kept};
-ghost use Rattle.desk.specs.Steps.{deskOf};
 use crate::Desk;
 use crate::WrittenDesk;
-use crate::judge;
 use crate::mark;
 use causality::MarkId;
 use frame::Refusal;
@@ -22,19 +18,22 @@ pub fn write_again<'a>(
     numbers: &'a [u16; PLACES],
     boxes: &'a [u32; PLACES * BOX],
     stamps: &'a [u16; PLACES * WIDTH],
-    count: usize,
+    tally: &'a [u16; WIDTH],
+    last: &'a [u16; WIDTH],
+    before: &'a [u16; PLACES],
     a: MarkId,
     out: &mut [u8],
 ) -> Writing
-    requires { ⌜ count ≤ places ⌝ }
-    ensures { λ r. ⌜ ((own : ℕ) (q : Waiting) → FrameAgainPromise (deskOf own count (now (desks .entry)) (now (numbers .entry)) (now (boxes .entry)) (now (stamps .entry)) q) a (now (out .entry)) (now (out .exit)) (record { desk = deskOf own count (now (desks .entry)) (now (numbers .entry)) (now (boxes .entry)) (now (stamps .entry)) q; answer = r })) ⌝ }
+    requires { ⌜ SomeDesk (againLent desks numbers boxes stamps tally last before) ⌝ }
+    ensures { λ r. ⌜ EachDesk
+        (againLent (desks .entry) (numbers .entry) (boxes .entry) (stamps .entry) (tally .entry) (last .entry) (before .entry))
+        (λ d. FrameAgainPromise d a (now (out .entry)) (now (out .exit)) (record { desk = d; answer = r })) ⌝ }
 {
-    let n = a.number;
-    let p = rows::find(desks, numbers, count, a.desk, n.0);
-    if count <= p {
+    let p = executed::find(tally, last, before, a);
+    if PLACES <= p {
         return Writing::Refused(Refusal::NotExecuted);
     }
-    mark::write_mark(judge::mark_at(desks, numbers, boxes, stamps, p), out)
+    mark::write_mark(rows::mark_at(desks, numbers, boxes, stamps, p), out)
 }
 
 impl Desk {
@@ -47,7 +46,9 @@ impl Desk {
             &self.numbers,
             &self.boxes,
             &self.stamps,
-            self.count,
+            &self.tally,
+            &self.last,
+            &self.before,
             a,
             out,
         );

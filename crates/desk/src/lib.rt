@@ -1,14 +1,11 @@
 // One desk's causality engine: the seven calls.
 mod apart;
-mod arrive;
 mod first_apart;
 pub mod frame_again;
-mod judge;
-mod mark;
+pub mod mark;
 mod new;
-mod receive;
+pub mod receive;
 mod relate;
-mod release;
 
 use causality::Counted;
 use causality::Created;
@@ -16,16 +13,15 @@ use causality::Lowest;
 use causality::Marked;
 use causality::Received;
 use causality::Related;
-use frame::Refusal;
 use frame::Writing;
 use queries::ApartList;
 use rows::BOX;
 use rows::PLACES;
 use rows::WIDTH;
-use waiting::Held;
 use waiting::Waiting;
 
-// A desk (site): its executed marks by place, each with its stamp as a row, and its waiting marks. Unused slots are zero.
+// A desk (site): its executed marks by place, each with its stamp as a row; what is kept of them: for each desk how many there are, its head or 0, the place
+// of its last plus 1, and by place that of the desk's previous mark plus 1; and its waiting marks. Unused slots are zero.
 #[repr(C)]
 pub struct Desk {
     own: u8,
@@ -34,6 +30,10 @@ pub struct Desk {
     numbers: [u16; PLACES],
     boxes: [u32; PLACES * BOX],
     stamps: [u16; PLACES * WIDTH],
+    tally: [u16; WIDTH],
+    heads: [u16; WIDTH],
+    last: [u16; WIDTH],
+    before: [u16; PLACES],
     queue: Waiting,
 }
 
@@ -77,26 +77,4 @@ pub struct LowestDesk {
 pub struct WrittenDesk {
     pub desk: Desk,
     pub answer: Writing,
-}
-
-// What Receive finds of a mark: a refusal, or what it does.
-pub(crate) enum Verdict {
-    Refused(Refusal),
-    Known,
-    Waits,
-    Runs,
-}
-
-// What is executed next: nothing, or a mark that is not in the queue any more. It is dropped if its stamp is false.
-pub(crate) struct Next {
-    pub found: bool,
-    pub drops: bool,
-    pub held: Held,
-    pub queue: Waiting,
-}
-
-// What comes of a frame: the mark that is executed first, or none and the answer.
-pub(crate) struct Arrival {
-    pub next: Next,
-    pub answer: Received,
 }

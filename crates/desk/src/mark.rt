@@ -1,18 +1,16 @@
-// Mark: a box becomes this desk's next mark, and its frame is written out.
+// Mark: a box becomes this desk's next mark, and its frame is written out. The desk's arrays are lent and changed in place.
 ghost use mathlib.Core.Path.{_≡_};
-ghost use mathlib.Core.List.{List};
-ghost use Prim.Native.Nat.{ℕ, _≤_};
-ghost use lib.ListN.{length};
+ghost use Prim.Native.Nat.{_+_, _-_, _≤_};
+ghost use lib.ListN.{length, getD};
 ghost use Rattle.frame.specs.Frame.{writing, overIf};
 ghost use Rattle.frame.specs.Mark.{desks};
-ghost use Rattle.causality.specs.Calls.{frameOfMark, sizeOfMark, newMark};
+ghost use Rattle.causality.specs.Calls.{frameOfMark, sizeOfMark};
 ghost use Rattle.causality.specs.Marks.{places};
-ghost use Rattle.rows.specs.View.{width, Named};
-ghost use Rattle.waiting.specs.declared.Waiting.{Waiting};
-ghost use Rattle.waiting.specs.Queue.{heldMark};
+ghost use Rattle.rows.specs.View.{width, heldMark};
+ghost use Rattle.executed.specs.Arrays.{here, found, left};
 ghost use Rattle.desk.specs.Promises.{MarkPromise};
-ghost use Rattle.desk.specs.StateOf.{stateOf, Kept};
-ghost use Rattle.desk.specs.Steps.{deskOf};
+ghost use Rattle.desk.specs.StateOf.{Kept};
+ghost use Rattle.desk.specs.Lent.{MarkLent, Marking};
 use crate::Desk;
 use crate::MarkedDesk;
 use causality::Marked;
@@ -21,14 +19,16 @@ use frame::MarkBox;
 use frame::Number;
 use frame::Refusal;
 use frame::Writing;
+use rows::BOX;
+use rows::Held;
 use rows::PLACES;
 use rows::WIDTH;
-use waiting::Held;
 
 // The frame of a mark, as by the writer.
 pub(crate) fn write_mark(h: Held, out: &mut [u8]) -> Writing
     ensures answer { λ r. ⌜ writing r ≡ sizeOfMark desks (heldMark h) (length (now (out .entry))) ⌝ }
-    ensures bytes { λ _. ⌜ now (out .exit) ≡ overIf (sizeOfMark desks (heldMark h) (length (now (out .entry)))) (frameOfMark desks (heldMark h)) (now (out .entry)) ⌝ }
+    ensures bytes { λ _. ⌜ now (out .exit)
+        ≡ overIf (sizeOfMark desks (heldMark h) (length (now (out .entry)))) (frameOfMark desks (heldMark h)) (now (out .entry)) ⌝ }
 {
     let row = h.row;
     let number = h.number;
@@ -48,66 +48,119 @@ pub(crate) fn write_mark(h: Held, out: &mut [u8]) -> Writing
 }
 
 // The mark that a box becomes at desk `own`.
-fn next_mark<'a>(
-    own: u8,
-    desks: &'a [u8; PLACES],
-    stamps: &'a [u16; PLACES * WIDTH],
-    count: usize,
-    extent: MarkBox,
-) -> Held
-    requires { ⌜ (1 ≤ own) × (own ≤ width) × (count ≤ places) × Named width count (now desks) ⌝ }
-    ensures { λ r. ⌜ ((ns bs : List ℕ) (q : Waiting) → Kept (deskOf own count (now (desks .entry)) ns bs (now (stamps .entry)) q) → heldMark r ≡ newMark (stateOf (deskOf own count (now (desks .entry)) ns bs (now (stamps .entry)) q)) extent) ⌝ }
+fn next_mark(own: u8, tally: [u16; WIDTH], heads: [u16; WIDTH], extent: MarkBox) -> Held
+    requires { ⌜ (1 ≤ own) × (own ≤ width) × (getD tally (own - 1) 0 ≤ places) ⌝ }
+    ensures { λ r. ⌜ r ≡ record { desk = own; number = record { 0 = getD tally (own - 1) 0 + 1 }; extent = extent; row = heads } ⌝ }
 {
-    let t = rows::tally(desks, count);
-    let row = rows::heads(desks, stamps, count);
     let at = own as usize - 1;
     Held {
         desk: own,
-        number: Number(t[at] + 1),
+        number: Number(tally[at] + 1),
         extent: extent,
-        row: row,
+        row: heads,
     }
 }
 
+// Mark in place; so many marks wait.
+pub fn marking(
+    own: u8,
+    count: &mut usize,
+    desks: &mut [u8; PLACES],
+    numbers: &mut [u16; PLACES],
+    boxes: &mut [u32; PLACES * BOX],
+    stamps: &mut [u16; PLACES * WIDTH],
+    tally: &mut [u16; WIDTH],
+    heads: &mut [u16; WIDTH],
+    last: &mut [u16; WIDTH],
+    before: &mut [u16; PLACES],
+    waiting: usize,
+    extent: MarkBox,
+    out: &mut [u8],
+) -> Marked
+    requires { ⌜ MarkLent own waiting (here count desks numbers boxes stamps tally heads last before) ⌝ }
+    ensures { λ r. ⌜ Marking own waiting (found count desks numbers boxes stamps tally heads last before)
+        (left count desks numbers boxes stamps tally heads last before) extent out r ⌝ }
+{
+    let at = *count;
+    if !frame::conditions::box_rule(extent) {
+        return Marked::Refused(Refusal::FieldRange);
+    }
+    if at + waiting == PLACES {
+        return Marked::Refused(Refusal::DeskFull);
+    }
+    let t = *tally;
+    let row = *heads;
+    let h = next_mark(own, t, row, extent);
+    let size = match write_mark(h, out) {
+        Writing::Refused(refusal) => {
+            return Marked::Refused(refusal);
+        }
+        Writing::Size(size) => size,
+    };
+    executed::execute(
+        count,
+        desks,
+        numbers,
+        boxes,
+        stamps,
+        tally,
+        heads,
+        last,
+        before,
+        h,
+    );
+    let number = h.number;
+    Marked::Made(number, size)
+}
+
 impl Desk {
+    // The desk's arrays are lent and given back.
     pub fn mark(mut self, extent: MarkBox, out: &mut [u8]) -> MarkedDesk
         requires { ⌜ Kept self ⌝ }
         ensures { λ r. ⌜ MarkPromise self extent (now (out .entry)) (now (out .exit)) r ⌝ }
     {
-        let at = self.count;
-        let q = self.queue;
-        if !frame::conditions::box_rule(extent) {
-            return MarkedDesk {
-                desk: self,
-                answer: Marked::Refused(Refusal::FieldRange),
-            };
-        }
-        if at + q.count == PLACES {
-            return MarkedDesk {
-                desk: self,
-                answer: Marked::Refused(Refusal::DeskFull),
-            };
-        }
-        let h = next_mark(self.own, &self.desks, &self.stamps, at, extent);
-        let size = match write_mark(h, out) {
-            Writing::Refused(refusal) => {
-                return MarkedDesk {
-                    desk: self,
-                    answer: Marked::Refused(refusal),
-                };
-            }
-            Writing::Size(size) => size,
-        };
-        let number = h.number;
-        let row = h.row;
-        rows::put_row(&mut self.stamps, at, row);
-        rows::put_box(&mut self.boxes, at, extent);
-        self.desks[at] = h.desk;
-        self.numbers[at] = number.0;
-        self.count = at + 1;
+        let own = self.own;
+        let mut count = self.count;
+        let mut desks = self.desks;
+        let mut numbers = self.numbers;
+        let mut boxes = self.boxes;
+        let mut stamps = self.stamps;
+        let mut tally = self.tally;
+        let mut heads = self.heads;
+        let mut last = self.last;
+        let mut before = self.before;
+        let queue = self.queue;
+        let waiting = queue.count;
+        let answer = marking(
+            own,
+            &mut count,
+            &mut desks,
+            &mut numbers,
+            &mut boxes,
+            &mut stamps,
+            &mut tally,
+            &mut heads,
+            &mut last,
+            &mut before,
+            waiting,
+            extent,
+            out,
+        );
         MarkedDesk {
-            desk: self,
-            answer: Marked::Made(number, size),
+            desk: Desk {
+                own: own,
+                count: count,
+                desks: desks,
+                numbers: numbers,
+                boxes: boxes,
+                stamps: stamps,
+                tally: tally,
+                heads: heads,
+                last: last,
+                before: before,
+                queue: queue,
+            },
+            answer: answer,
         }
     }
 }

@@ -1,8 +1,10 @@
 // New: an empty desk.
 ghost use mathlib.Core.Path.{_≡_};
 ghost use Rattle.causality.specs.Calls.{empty};
+ghost use Rattle.executed.specs.Arrays.{Ordered};
+ghost use Rattle.waiting.specs.Queue.{Queued};
 ghost use Rattle.desk.specs.Promises.{NewPromise};
-ghost use Rattle.desk.specs.StateOf.{stateOf, Unused};
+ghost use Rattle.desk.specs.StateOf.{stateOf, arraysOf};
 use crate::CreatedDesk;
 use crate::Desk;
 use causality::Created;
@@ -12,7 +14,7 @@ use rows::PLACES;
 use rows::WIDTH;
 
 fn blank(own: u8) -> Desk
-    ensures { λ r. ⌜ (stateOf r ≡ empty own) × Unused r ⌝ }
+    ensures { λ r. ⌜ (stateOf r ≡ empty own) × Ordered (arraysOf r) × Queued (r .queue) ⌝ }
 {
     let queue = waiting::empty();
     Desk {
@@ -22,6 +24,10 @@ fn blank(own: u8) -> Desk
         numbers: [0; PLACES],
         boxes: [0; PLACES * BOX],
         stamps: [0; PLACES * WIDTH],
+        tally: [0; WIDTH],
+        heads: [0; WIDTH],
+        last: [0; WIDTH],
+        before: [0; PLACES],
         queue: queue,
     }
 }

@@ -14,7 +14,9 @@ impl Desk {
             &self.desks,
             &self.numbers,
             &self.stamps,
-            self.count,
+            &self.tally,
+            &self.last,
+            &self.before,
             a,
             b,
         );

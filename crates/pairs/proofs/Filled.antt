@@ -11,7 +11,8 @@ use Rattle.frame.specs.Frame.{overIf}
 use Rattle.frame.specs.Mark.{MarkId}
 use Rattle.causality.specs.declared.MarkId.{MarkId as CodeId}
 use Rattle.causality.specs.Meaning.{idOf}
-use Rattle.pairs.specs.Pairs.{pairAt, filled, namesDown, marksOf, ListsIf}
+use Rattle.pairs.specs.Pairs.{pairAt, filled, marksOf, ListsIf}
+use Rattle.rows.specs.View.{namesDown}
 use Rattle.pairs.specs.declared.Listed.{Listed}
 
 pub length-filled : (xs : List CodeId) (list : Listed) (k : ℕ) → length (filled xs list k) ≡ length xs

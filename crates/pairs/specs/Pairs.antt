@@ -6,6 +6,7 @@ use lib.ListN.{getD, set}
 use Rattle.frame.specs.Answer.{Answer, gives, refused}
 use Rattle.frame.specs.Mark.{MarkId}
 use Rattle.causality.specs.declared.MarkId.{MarkId as CodeId}
+use Rattle.rows.specs.View.{namesDown}
 use Rattle.pairs.specs.declared.Listed.{Listed}
 
 -- The pair at i.
@@ -16,11 +17,6 @@ pairAt list i = record { desk = getD (list .desks) i 0; number = record { 0 = ge
 abbrev pub filled : List CodeId → Listed → ℕ → List CodeId
 filled xs list zero = xs
 filled xs list (suc k) = set (filled xs list k) k (pairAt list k)
-
--- The first k names by falling index.
-abbrev pub namesDown : ℕ → List ℕ → List ℕ → List MarkId
-namesDown zero ds ns = []
-namesDown (suc k) ds ns = record { desk = getD ds k 0; number = getD ns k 0 } ∷ namesDown k ds ns
 
 -- The names of the list, by rising index.
 unfoldable pub marksOf : Listed → List MarkId

@@ -1,14 +1,13 @@
 -- Turns of the loops of Apart: a row of first followers is tested and noted, and marks apart are listed. n: how many desks. Assumes nothing.
-use Prim.Native.Nat.{_+_, _-_, _*_, _<_, _≤_, suc, zero, ℕ}
-use borrow.Author.Tests.{eq-eqb, eqb-false, eqb-true, le-leb, le-ltb, lt-leb, lt-ltb, ne-eqb}
+use Prim.Native.Nat.{_+_, _-_, _<_, _≤_, suc, zero, ℕ}
+use borrow.Author.Tests.{eq-eqb, eqb-false, eqb-true, le-ltb, lt-ltb, ne-eqb}
 use lib.Dec.{T, eqb, leb, ltb, ltb→lt, nltb→le, not-T}
-use lib.ListN.{getD, length, replicate, set}
+use lib.ListN.{getD, length, length-replicate, replicate, set}
 use lib.Seq.{getD-set-other, getD-set-same}
-use mathlib.Core.Bool.{Bool, _&&_, _||_, and-false, cond, false, not, or-true, true}
+use mathlib.Core.Bool.{Bool, _&&_, _||_, cond, false, not, or-false, or-true, true}
 use mathlib.Core.List.{List, _∷_}
-use mathlib.Core.Logic.{_⊎_, inl, inr, ⊎-elim}
+use mathlib.Core.Logic.{inl, inr}
 use mathlib.Core.Path.{_∙_, _≡_, ap, refl, subst, sym}
-use native.Mathlib.Nat.{eq-or-lt-of-le}
 use native.Mathlib.Numerals.{add-one, sub-one}
 use native.Mathlib.Omega.{arith}
 use Rattle.frame.specs.declared.MarkBox.{MarkBox}
@@ -19,14 +18,13 @@ use Rattle.causality.proofs.Apart.{follower-cong, follower-new, followers, note
 use Rattle.causality.proofs.Logic.{T→eq, nT→eq, same-refl, same→eq, split}
 use Rattle.causality.proofs.Reach.{Sound}
 use Rattle.pairs.specs.declared.Listed.{Listed}
-use Rattle.pairs.specs.Pairs.{namesDown}
-use Rattle.rows.specs.View.{markAt, rowAt, rowFn, view}
+use Rattle.rows.specs.View.{markAt, namesDown, rowAt, rowFn, view}
 use Rattle.rows.proofs.Arrays.{sound-below}
 use Rattle.rows.proofs.Places.{has-at, not-before, precedes-there}
 use Rattle.rows.proofs.RowSteps.{not-leb}
+use Rattle.rows.proofs.Slots.{zero-one, zeros}
 use Rattle.queries.specs.Found.{Spare}
-use Rattle.queries.proofs.PastRow.{PastTold, zeros}
-use Rattle.queries.proofs.Zeros.{zero-one}
+use Rattle.queries.specs.Steps.{PastTold}
 
 -- THE TEST
 
@@ -34,38 +32,26 @@ use Rattle.queries.proofs.Zeros.{zero-one}
 abbrev pub from : List ℕ → ℕ → ℕ → ℕ
 from ss base d = getD ss (base + (d - 1)) 0
 
-module _ (first ss : List ℕ) (base : ℕ) where
-  pub test-more : (j : ℕ) → someFollower j (rowFn first) (from ss base) ≡ false → (getD first j 0 ≤ 0) ⊎ (getD ss (base + j) 0 < getD first j 0)
-      → someFollower (j + 1) (rowFn first) (from ss base) ≡ false
-  test-more j e (inl h) = rw (add-one j, sub-one (suc j), le-ltb 0 (getD first j 0) h, e) refl
-  test-more j e (inr h) = rw (add-one j, sub-one (suc j), lt-leb (getD first j 0) (getD ss (base + j) 0) h, and-false, e) refl
+-- Whether the mark is the given one, b, or its stamp names a follower at one of the first j desks.
+abbrev pub passed : Bool → List ℕ → List ℕ → ℕ → ℕ → Bool
+passed b first ss base j = b || someFollower j (rowFn first) (from ss base)
 
-  test-yes : (n j : ℕ) → j < n → 0 < getD first j 0 → getD first j 0 ≤ getD ss (base + j) 0 → someFollower n (rowFn first) (from ss base) ≡ true
-  test-yes zero j h p l = let z : ⊥ = omega arith in absurd z
-  test-yes (suc n) j h p l = ⊎-elim here (λ q. ap (λ (b : Bool). t || b) (test-yes n j q p l) ∙ or-true t) (eq-or-lt-of-le {n = j} {m = n} (omega arith))
-    where
-      t : Bool
-      t = ltb 0 (rowFn first (suc n)) && leb (rowFn first (suc n)) (from ss base (suc n))
+pub passed-none : (b : Bool) (first ss : List ℕ) (base : ℕ) → b ≡ passed b first ss base 0
+passed-none b first ss base = sym (or-false b)
 
-      here : j ≡ n → someFollower (suc n) (rowFn first) (from ss base) ≡ true
-      here q =
-          let p′ : 0 < getD first n 0 = subst (λ (i : ℕ). 0 < getD first i 0) q p in
-          let l′ : getD first n 0 ≤ getD ss (base + n) 0 = subst (λ (i : ℕ). getD first i 0 ≤ getD ss (base + i) 0) q l in
-          rw (sub-one (suc n), lt-ltb 0 (getD first n 0) p′, le-leb (getD first n 0) (getD ss (base + n) 0) l′) refl
+module _ (b : Bool) (first ss : List ℕ) (base j : ℕ) where
+  abbrev next : Bool
+  next = ltb 0 (getD first j 0) && leb (getD first j 0) (getD ss (base + j) 0)
 
-module _ (n : ℕ) (first ss : List ℕ) (p q : ℕ) where
-  -- The given mark itself; a mark whose stamp names a follower; another mark.
-  pub follows-own : p ≡ q → true ≡ (eqb p q || someFollower n (rowFn first) (rowAt n ss q))
-  follows-own e = sym (ap (λ (b : Bool). b || someFollower n (rowFn first) (rowAt n ss q)) (eq-eqb p q e))
+  more : passed b first ss base (j + 1) ≡ (b || (next || someFollower j (rowFn first) (from ss base)))
+  more = rw (add-one j, sub-one (suc j)) refl
 
-  pub follows-named : (j : ℕ) → j < n → 0 < getD first j 0 → getD first j 0 ≤ getD ss (q * n + j) 0 → true ≡ (eqb p q || someFollower n (rowFn first) (rowAt n ss q))
-  follows-named j h x y = sym (ap (λ (b : Bool). eqb p q || b) (test-yes first ss (q * n) n j h x y) ∙ or-true (eqb p q))
+  -- The next desk has a follower, or none.
+  pub passed-yes : next ≡ true → true ≡ passed b first ss base (j + 1)
+  passed-yes e = sym (more ∙ ap (λ (x : Bool). b || (x || someFollower j (rowFn first) (from ss base))) e ∙ or-true b)
 
-  pub follows-none : (j : ℕ) → j ≡ n → (p ≡ q → ⊥) → someFollower j (rowFn first) (from ss (q * n)) ≡ false → false ≡ (eqb p q || someFollower n (rowFn first) (rowAt n ss q))
-  follows-none j e f x =
-      let y = ne-eqb p q f in
-      let z = subst (λ (k : ℕ). someFollower k (rowFn first) (from ss (q * n)) ≡ false) e x in
-      sym (λ i. y i || z i)
+  pub passed-no : next ≡ false → passed b first ss base j ≡ passed b first ss base (j + 1)
+  passed-no e = sym (more ∙ ap (λ (x : Bool). b || (x || someFollower j (rowFn first) (from ss base))) e)
 
 -- THE NOTE
 
@@ -118,6 +104,7 @@ module _ (n : ℕ) (ds ns ss : List ℕ) (count p : ℕ) where
     pub turns : q ≤ count
     pub small : list .count ≤ q
     pub spare : Spare list
+    pub long : length first ≡ n
     pub rows : (bs : ℕ → MarkBox) → Sound (view n count ds ns bs ss) → (d : ℕ) → 1 ≤ d → d ≤ n → rowFn first d ≡ followers given (view n q ds ns bs ss) d
     pub names : (bs : ℕ → MarkBox) → Sound (view n count ds ns bs ss)
         → namesDown (list .count) (list .desks) (list .numbers) ≡ keep (concurrent (view n count ds ns bs ss) given) (ids (view n q ds ns bs ss))
@@ -186,12 +173,13 @@ module _ (n : ℕ) (ds ns ss : List ℕ) (count p : ℕ) where
           ap (λ (k : ℕ). keep P (ids (view n k ds ns bs ss))) (add-one q) ∙ (λ i. cond (x i) (record { desk = getD ds q 0; number = getD ns q 0 } ∷ keep P (ids (view n q ds ns bs ss))) (keep P (ids (view n q ds ns bs ss))))
 
       -- A mark that is the given one or follows it is noted.
-      pub turn-follows : (eqb p q || someFollower n (rowFn first) (rowAt n ss q)) ≡ true → (first′ : List ℕ)
+      pub turn-follows : (eqb p q || someFollower n (rowFn first) (rowAt n ss q)) ≡ true → (first′ : List ℕ) → length first′ ≡ n
           → ((d : ℕ) → 1 ≤ d → d ≤ n → rowFn first′ d ≡ noted (rowFn first) (record { desk = getD ds q 0; number = getD ns q 0 }) d) → ApartTo (q + 1) first′ list
-      turn-follows e first′ f = record {
+      turn-follows e first′ long f = record {
         turns = omega arith;
         small = let x = w .small in omega arith;
         spare = w .spare;
+        long = long;
         rows = step-rows first′ true e f;
         names = λ bs s. w .names bs s ∙ sym (step-names false (ap (λ (b : Bool). not b && ltb (rowFn past (getD ds q 0)) (getD ns q 0)) e) bs s);
       }
@@ -202,6 +190,7 @@ module _ (n : ℕ) (ds ns ss : List ℕ) (count p : ℕ) where
         turns = omega arith;
         small = let x = w .small in omega arith;
         spare = w .spare;
+        long = w .long;
         rows = step-rows first false e (λ d lo hi. refl);
         names = λ bs s. w .names bs s ∙ sym (step-names false (let v = le-ltb (rowFn past (getD ds q 0)) (getD ns q 0) u in λ i. not (e i) && v i) bs s);
       }
@@ -213,6 +202,7 @@ module _ (n : ℕ) (ds ns ss : List ℕ) (count p : ℕ) where
         turns = omega arith;
         small = let z = w .small in omega arith;
         spare = record { desks = zero-one (list .desks) places (list .count) (getD ds q 0) (w .spare .desks); numbers = zero-one (list .numbers) places (list .count) (getD ns q 0) (w .spare .numbers) };
+        long = w .long;
         rows = step-rows first false e (λ d lo hi. refl);
         names = λ bs s. names-more (list .desks) (list .numbers) (list .count) (getD ds q 0) (getD ns q 0) (within (list .desks) (w .spare .desks .long)) (within (list .numbers) (w .spare .numbers .long)) ∙ ap (λ (x : List MarkId). record { desk = getD ds q 0; number = getD ns q 0 } ∷ x) (w .names bs s)
             ∙ sym (step-names true (let v = lt-ltb (rowFn past (getD ds q 0)) (getD ns q 0) u in λ i. not (e i) && v i) bs s);
@@ -222,9 +212,9 @@ module _ (n : ℕ) (ds ns ss : List ℕ) (count p : ℕ) where
           within xs h = let x = w .small in omega arith
 
   -- At the start nothing is passed; at the end all marks are.
-  pub apart-none : (k : ℕ) (list : Listed) → list .count ≡ 0 → Spare list → ApartTo 0 (replicate k 0) list
+  pub apart-none : (list : Listed) → list .count ≡ 0 → Spare list → ApartTo 0 (replicate n 0) list
   unfolding view
-  apart-none k list e x = record { turns = omega arith; small = omega arith; spare = x; rows = λ bs s d lo hi. zeros k (d - 1); names = λ bs s. rw e refl }
+  apart-none list e x = record { turns = omega arith; small = omega arith; spare = x; long = length-replicate {A = ℕ} n 0; rows = λ bs s d lo hi. zeros n (d - 1); names = λ bs s. rw e refl }
 
   pub apart-all : (q : ℕ) (first : List ℕ) (list : Listed) → ApartTo q first list → count ≤ q
       → (list .count ≤ count) × Spare list × ((bs : ℕ → MarkBox) → Sound (view n count ds ns bs ss)

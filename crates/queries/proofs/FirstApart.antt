@@ -1,7 +1,6 @@
 -- First apart by the past of the mark at a place and the tally there. n: how many desks. Assumes nothing.
 use Prim.Native.Nat.{_<_, _≤_, suc, zero, ℕ}
-use borrow.Author.Tests.{leb-true}
-use lib.Dec.{T, leb, ltb, ltb→lt, nltb→le, not-T}
+use lib.Dec.{T, ltb, ltb→lt, nltb→le, not-T}
 use mathlib.Core.Bool.{Bool, _&&_, false, not, true}
 use mathlib.Core.List.{List}
 use mathlib.Core.Logic.{inl, inr}
@@ -11,16 +10,21 @@ use Rattle.frame.specs.declared.MarkBox.{MarkBox}
 use Rattle.frame.specs.Answer.{gives, refuseIf, refused}
 use Rattle.frame.specs.Mark.{MarkId, isDesk}
 use Rattle.causality.specs.Calls.{earlier, firstApart, lowestNumber}
-use Rattle.causality.specs.Marks.{find, has, keep, same, tally}
+use Rattle.causality.specs.Marks.{find, has, keep, places, same, tally}
 use Rattle.causality.specs.State.{Mark, State, concurrent, ids, markId, precedes}
 use Rattle.causality.proofs.Apart.{lowest-above, lowestAbove}
-use Rattle.causality.proofs.Logic.{T→eq, and-true, nT→eq, same-refl, same→eq, split}
+use Rattle.causality.proofs.Logic.{T→eq, nT→eq, same-refl, same→eq, split}
 use Rattle.causality.proofs.Reach.{Sound, precedes-listed, sound-counted}
-use Rattle.rows.specs.View.{markAt, placeAt, rowFn, view}
+use Rattle.executed.specs.Rows.{Finds, Lent}
+use Rattle.executed.proofs.Chain.{found-inside, found-place}
+use Rattle.rows.specs.View.{markAt, placeAt, rowFn, view, width}
 use Rattle.rows.proofs.Arrays.{sound-below}
 use Rattle.rows.proofs.Places.{found-none, found-some, has-at, has-more, not-before}
 use Rattle.rows.proofs.RowSteps.{not-leb}
-use Rattle.queries.proofs.PastRow.{PastTold, precedes-view}
+use Rattle.queries.specs.Lent.{lent}
+use Rattle.queries.specs.Steps.{Made, PastOf, PastTold}
+use Rattle.queries.proofs.MadeBefore.{made-first}
+use Rattle.queries.proofs.PastRow.{precedes-view}
 
 -- The answer by its two tests.
 answer-as : (N : ℕ) (st : State) (a : MarkId) (d : ℕ) (x y : Bool) (v : ℕ) → isDesk N d ≡ x → has a (ids (st .executed)) ≡ y
@@ -30,10 +34,6 @@ answer-as N st a d x y v ex ey ev = λ i. refuseIf (not (ex i)) 1 (refuseIf (not
 
 pub first-no-desk : (N : ℕ) (st : State) (a : MarkId) (d : ℕ) → isDesk N d ≡ false → firstApart N st a d ≡ refused 1
 first-no-desk N st a d e = answer-as N st a d false _ _ e refl refl
-
-pub desk-range : (N d : ℕ) → isDesk N d ≡ true → (1 ≤ d) × (d ≤ N)
-unfolding isDesk
-desk-range N d e = let x = and-true (leb 1 d) (leb d N) e in (leb-true 1 d (x .0), leb-true d N (x .1))
 
 module _ (n : ℕ) (ds ns : List ℕ) (bs : ℕ → MarkBox) (ss : List ℕ) where
   -- The marks executed before that at place p.
@@ -90,13 +90,29 @@ module _ (n : ℕ) (ds ns : List ℕ) (bs : ℕ → MarkBox) (ss : List ℕ) whe
     abbrev state : State
     state = record { own = own; executed = view n count ds ns bs ss; waiting = waiting }
 
-    pub first-not-executed : (d : ℕ) → isDesk N d ≡ true → count ≤ p → firstApart N (record { own = own; executed = view n count ds ns bs ss; waiting = waiting }) a d ≡ refused 12
+    first-not-executed : (d : ℕ) → isDesk N d ≡ true → count ≤ p → firstApart N (record { own = own; executed = view n count ds ns bs ss; waiting = waiting }) a d ≡ refused 12
     first-not-executed d e h = answer-as N state a d true false _ e (found-none n ds ns bs ss count p a h found .1) refl
 
-    pub first-given : (d : ℕ) → isDesk N d ≡ true → p < count → Sound (view n count ds ns bs ss) → (past : List ℕ) → PastTold n ds ns bs ss count p past → (t : ℕ) → t ≡ tally d (ids (view n p ds ns bs ss))
+    first-given : (d : ℕ) → isDesk N d ≡ true → p < count → Sound (view n count ds ns bs ss) → (past : List ℕ) → PastTold n ds ns bs ss count p past → (t : ℕ) → t ≡ tally d (ids (view n p ds ns bs ss))
         → firstApart N (record { own = own; executed = view n count ds ns bs ss; waiting = waiting }) a d ≡ gives (lowestAbove (rowFn past d) t)
     first-given d e h s past told t et =
         let x = found-some n ds ns bs ss count p a h found in
         answer-as N state a d true true _ e (T→eq (has a (ids (view n count ds ns bs ss))) (x .2))
         (subst (λ (i : MarkId). lowestNumber d (keep (concurrent (view n count ds ns bs ss) i) (earlier i (ids (view n count ds ns bs ss)))) ≡ lowestAbove (rowFn past d) (tally d (ids (view n p ds ns bs ss)))) (x .1) (first-at count p s h past told d)
         ∙ ap (lowestAbove (rowFn past d)) (sym et))
+
+-- LENT ARRAYS
+
+module _ (count : ℕ) (ds ns ss ts ls bf : List ℕ) (l : Lent count ds ns ts ls bf) (own : ℕ) (bs : ℕ → MarkBox) (waiting : List Mark)
+    (a : MarkId) (p : ℕ) (f : Finds ts ls bf a p) (d : ℕ) (e : isDesk width d ≡ true) where
+  at : placeAt width count p ds ns bs ss ≡ find markId a (view width count ds ns bs ss)
+  at = found-place count ds ns ts ls bf l a p f bs ss
+
+  pub first-none : places ≤ p → firstApart width (lent count ds ns ss own bs waiting) a d ≡ refused 12
+  first-none h = let w = l .few in first-not-executed width ds ns bs ss width own count p waiting a at d e (omega arith)
+
+  pub first-lowest : p < places → Sound (view width count ds ns bs ss) → (past : List ℕ) → PastOf ds ns ss p past → (t : ℕ) → Made ts ls bf d p t
+      → firstApart width (lent count ds ns ss own bs waiting) a d ≡ gives (lowestAbove (rowFn past d) t)
+  first-lowest h s past told t made =
+      let i = found-inside count ds ns ts ls bf l a p f h in
+      first-given width ds ns bs ss width own count p waiting a at d e i s past (told count bs i (l .named) s) t (made-first count p d t ds ns ts ls bf l made (omega arith) bs ss)

@@ -1,43 +1,32 @@
 -- The past of the mark at a place, as a row that is traced from the row of its stamp. n: how many desks. Assumes nothing.
 use Prim.Native.Nat.{_*_, _+_, _-_, _<_, _≤_, suc, zero, ℕ}
-use lib.Dec.{T, leb, leb→le, nleb→lt}
+use lib.Dec.{T, leb, leb→le, nleb→lt, not-T}
 use lib.ListN.{getD, replicate}
+use mathlib.Core.Bool.{Bool, false}
 use mathlib.Core.List.{List}
 use mathlib.Core.Logic.{inl, inr}
 use mathlib.Core.Path.{_∙_, _≡_, ap, refl, subst, sym}
 use native.Mathlib.Omega.{arith}
 use Rattle.frame.specs.declared.MarkBox.{MarkBox}
 use Rattle.frame.specs.Mark.{MarkId}
-use Rattle.causality.specs.Marks.{has, same}
+use Rattle.causality.specs.Marks.{has}
 use Rattle.causality.specs.State.{Mark, ids, precedes}
 use Rattle.causality.proofs.Apart.{trace-counts}
-use Rattle.causality.proofs.Logic.{or-cases, same→eq, split}
+use Rattle.causality.proofs.Logic.{nT→eq, split}
 use Rattle.causality.proofs.Past.{prefix-le}
 use Rattle.causality.proofs.Reach.{Sound, not-new, precedes-old, sound-counted}
 use Rattle.causality.proofs.RowLaws.{row-of-entries, under, under-trace}
 use Rattle.causality.proofs.Rows.{rowOf, trace}
-use Rattle.rows.specs.View.{Named, markAt, rowAt, rowFn, view}
+use Rattle.rows.specs.View.{Named, markAt, nameAt, rowAt, rowFn, view}
 use Rattle.rows.proofs.Arrays.{sound-below}
 use Rattle.rows.proofs.ByRows.{row-at}
-use Rattle.rows.proofs.Places.{has-more, precedes-there}
+use Rattle.rows.proofs.Places.{has-at, has-more, named-has, not-before, precedes-there}
 use Rattle.rows.proofs.RowSteps.{named-at, named-less, under-cong}
+use Rattle.rows.proofs.Slots.{zeros}
+use Rattle.queries.specs.Steps.{PastTold}
 use Rattle.queries.proofs.Reaching.{no-row, reached}
 
-pub zeros : (n p : ℕ) → _≡_ {A = ℕ} (getD (replicate n 0) p 0) 0
-zeros zero p = refl
-zeros (suc n) zero = refl
-zeros (suc n) (suc p) = zeros n p
-
 module _ (n : ℕ) (ds ns : List ℕ) (bs : ℕ → MarkBox) (ss : List ℕ) where
-  -- A listed mark is of a desk from 1 to n.
-  pub named-has : (count : ℕ) → Named n count ds → (i : MarkId) → T (has i (ids (view n count ds ns bs ss))) → (1 ≤ i .desk) × (i .desk ≤ n)
-  unfolding view
-  named-has zero f i t = absurd t
-  named-has (suc k) f i t = elim (or-cases (same i ((markAt n ds ns bs ss k) .id)) (has i (ids (view n k ds ns bs ss))) t) [
-    | inl u ↦ rw (same→eq i ((markAt n ds ns bs ss k) .id) u) (named-at n (suc k) ds k f (omega arith))
-    | inr u ↦ named-has k (named-less n (suc k) ds k f (omega arith)) i u
-  ]
-
   -- What precedes a listed mark is settled by the marks before its place.
   pub precedes-view : (count k : ℕ) → Sound (view n count ds ns bs ss) → k ≤ count → (a i : MarkId) → T (has i (ids (view n k ds ns bs ss)))
       → precedes (view n count ds ns bs ss) a i ≡ precedes (view n k ds ns bs ss) a i
@@ -69,15 +58,22 @@ module _ (n : ℕ) (ds ns : List ℕ) (bs : ℕ → MarkBox) (ss : List ℕ) whe
           under-cong n ds ns bs ss (λ d. 0) p f (rowFn row) r (λ d lo hi. er (d - 1) (omega arith) ∙ sym (row-of-entries n (rowAt n ss p) d lo hi)) (i .desk) lo hi
           ∙ sym (no-row (under l (λ d. 0) r (i .desk))) ∙ under-trace l (λ d. 0) r (i .desk) ∙ (λ k. trace l (λ d. no-row (r d) k) (i .desk))
 
-  -- The row past tells of each listed mark if it precedes that at place p.
-  abbrev pub PastTold : ℕ → ℕ → List ℕ → Type 0
-  PastTold count p past = (i : MarkId) → T (has i (ids (view n count ds ns bs ss))) → precedes (view n count ds ns bs ss) i ((markAt n ds ns bs ss p) .id) ≡ leb (i .number) (rowFn past (i .desk))
-
   pub past-row : (count p : ℕ) → p < count → Named n count ds → Sound (view n count ds ns bs ss) → (row past : List ℕ)
       → ((j : ℕ) → j < n → getD row j 0 ≡ getD ss (p * n + j) 0)
       → ((j : ℕ) → j < n → getD past j 0 ≡ under (view n p ds ns bs ss) (rowFn (replicate n 0)) (rowFn row) (suc j))
-      → PastTold count p past
+      → PastTold n ds ns bs ss count p past
   past-row count p h f s row past er ep i t =
-      let w = named-has count f i t in
+      let w = named-has n ds ns bs ss count f i t in
       reached-counts count p h (named-less n count ds p f (omega arith)) s row er i (w .0) (w .1) ((prefix-le (ids (view n count ds ns bs ss)) (sound-counted (view n count ds ns bs ss) s) i t) .0)
       ∙ ap (leb (i .number)) (sym (row-at n past (under (view n p ds ns bs ss) (rowFn (replicate n 0)) (rowFn row)) ep (i .desk) (w .0) (w .1) ∙ (λ k. under (view n p ds ns bs ss) (λ d. zeros n (d - 1) k) (rowFn row) (i .desk))))
+
+  -- Entries lead from the row of the mark at q to the mark at an earlier place if that mark precedes it.
+  pub led : (count p q : ℕ) → p < q → q < count → Named n q ds → Sound (view n count ds ns bs ss) → (row : List ℕ) → ((j : ℕ) → j < n → getD row j 0 ≡ getD ss (q * n + j) 0) → (r : Bool)
+      → (Sound (view n q ds ns bs ss) → has (nameAt ds ns p) (ids (view n p ds ns bs ss)) ≡ false → 1 ≤ getD ns p 0 → r ≡ leb (getD ns p 0) (reached n ds ns bs ss q row (getD ds p 0)))
+      → r ≡ precedes (view n count ds ns bs ss) (nameAt ds ns p) (nameAt ds ns q)
+  led count p q o h f s row er r e =
+      let i = nameAt ds ns p in
+      let w = named-at n q ds p f o in
+      let pos = (prefix-le (ids (view n count ds ns bs ss)) (sound-counted (view n count ds ns bs ss) s) i (has-at n ds ns bs ss count p (omega arith))) .0 in
+      let out = nT→eq (has i (ids (view n p ds ns bs ss))) (not-T (has i (ids (view n p ds ns bs ss))) (not-before n ds ns bs ss count p p s (omega arith) (omega arith))) in
+      e (sound-below n count ds ns bs ss s q (omega arith)) out pos ∙ sym (reached-counts count q h f s row er i (w .0) (w .1) pos)

@@ -1,21 +1,18 @@
 // Apart: the executed marks concurrent with a given one, by place.
 ghost use mathlib.Core.Path.{_≡_};
-ghost use mathlib.Core.Bool.{_||_};
-ghost use mathlib.Core.List.{List};
-ghost use Prim.Native.Nat.{ℕ, _≤_, _<_};
-ghost use lib.Dec.{eqb};
-ghost use Rattle.frame.specs.declared.MarkBox.{MarkBox};
-ghost use Rattle.causality.specs.Marks.{places, keep};
-ghost use Rattle.causality.specs.State.{ids, concurrent};
-ghost use Rattle.causality.proofs.Apart.{noted, someFollower};
-ghost use Rattle.causality.proofs.Reach.{Sound};
-ghost use Rattle.rows.specs.View.{width, rowFn, rowAt, view, markAt, Named};
+ghost use mathlib.Core.Bool.{_&&_, _||_};
+ghost use Prim.Native.Nat.{_≤_, _<_};
+ghost use lib.Dec.{eqb, leb, ltb};
+ghost use lib.ListN.{length};
+ghost use Rattle.causality.specs.Marks.{places};
 ghost use Rattle.causality.specs.Meaning.{idOf};
-ghost use Rattle.causality.specs.State.{Mark};
 ghost use Rattle.causality.specs.declared.Counted.the-variants.{Refused};
-ghost use Rattle.pairs.specs.Pairs.{namesDown};
+ghost use Rattle.causality.proofs.Apart.{someFollower};
+ghost use Rattle.executed.specs.Rows.{Lent};
+ghost use Rattle.rows.specs.View.{width, rowFn, rowAt, Named};
 ghost use Rattle.queries.specs.Found.{ApartFound, Spare};
-ghost use Rattle.queries.specs.Lent.{lent};
+ghost use Rattle.queries.specs.Lent.{OfCount};
+ghost use Rattle.queries.specs.Steps.{ApartAt, Noted};
 use crate::ApartList;
 use crate::past::past;
 use causality::Counted;
@@ -26,37 +23,46 @@ use pairs::Listed;
 use rows::PLACES;
 use rows::WIDTH;
 
-// Is the mark at place q the given one at p, or does its stamp name a follower of it? By the first follower's number at each desk; 0 is none.
-fn follows(stamps: &[u16; PLACES * WIDTH], p: Place, q: Place, first: [u16; WIDTH]) -> bool
-    requires { ⌜ q .0 < places ⌝ }
-    ensures { λ r. ⌜ r ≡ (eqb (p .0) (q .0) || someFollower width (rowFn first) (rowAt width (now (stamps .entry)) (q .0))) ⌝ }
+// Is mark x of a desk the first follower, of number f, or a later one? 0 is none.
+fn reaches(f: u16, x: u16) -> bool
+    ensures { λ r. ⌜ r ≡ (ltb 0 f && leb f x) ⌝ }
 {
-    if p.0 == q.0 {
-        return true;
-    }
+    0 < f && f <= x
+}
+
+// Is the mark at place q the given one at p, or does its stamp name a follower of it? By the first follower's number at each desk.
+// Each desk is tested, so that the loop becomes vector code.
+fn follows<'a>(
+    stamps: &'a [u16; PLACES * WIDTH],
+    first: &'a [u16; WIDTH],
+    p: Place,
+    q: Place,
+) -> bool
+    requires { ⌜ q .0 < places ⌝ }
+    ensures { λ r. ⌜ r ≡ (eqb (p .0) (q .0)
+        || someFollower width (rowFn (now (first .entry))) (rowAt width (now (stamps .entry)) (q .0))) ⌝ }
+{
     let base = q.0 * WIDTH;
+    let mut found = p.0 == q.0;
     let mut j = 0;
     while j < WIDTH {
-        if 0 < first[j] {
-            if first[j] <= stamps[base + j] {
-                return true;
-            }
+        if reaches(first[j], stamps[base + j]) {
+            found = true;
         }
         j += 1;
     }
-    false
+    found
 }
 
 // Notes a follower, where it is the first of its desk.
-fn note(mut first: [u16; WIDTH], desk: u8, number: u16) -> [u16; WIDTH]
-    requires { ⌜ (1 ≤ desk) × (desk ≤ width) ⌝ }
-    ensures { λ r. ⌜ ((d : ℕ) → 1 ≤ d → d ≤ width → rowFn r d ≡ noted (rowFn first) (record { desk = desk; number = number }) d) ⌝ }
+fn note(first: &mut [u16; WIDTH], desk: u8, number: u16)
+    requires { ⌜ (1 ≤ desk) × (desk ≤ width) × (length (now first) ≡ width) ⌝ }
+    ensures { λ _. ⌜ Noted (now (first .entry)) (record { desk = desk; number = number }) (now (first .exit)) ⌝ }
 {
     let i = desk as usize - 1;
     if first[i] == 0 {
         first[i] = number;
     }
-    first
 }
 
 // One pass by place: a mark that is neither the given one nor follows it, and is not of its past, is apart.
@@ -68,7 +74,7 @@ fn apart<'a>(
     p: Place,
 ) -> Listed
     requires { ⌜ (count ≤ places) × (p .0 < count) × Named width count (now desks) ⌝ }
-    ensures { λ r. ⌜ (r .count ≤ count) × Spare r × ((bs : ℕ → MarkBox) → Sound (view width count (now (desks .entry)) (now (numbers .entry)) bs (now (stamps .entry))) → namesDown (r .count) (r .desks) (r .numbers) ≡ keep (concurrent (view width count (now (desks .entry)) (now (numbers .entry)) bs (now (stamps .entry))) (markAt width (now (desks .entry)) (now (numbers .entry)) bs (now (stamps .entry)) (p .0) .id)) (ids (view width count (now (desks .entry)) (now (numbers .entry)) bs (now (stamps .entry))))) ⌝ }
+    ensures { λ r. ⌜ ApartAt (now (desks .entry)) (now (numbers .entry)) (now (stamps .entry)) count (p .0) r ⌝ }
 {
     let past = past(desks, numbers, stamps, p);
     let mut first = [0u16; WIDTH];
@@ -81,9 +87,8 @@ fn apart<'a>(
     while q < count {
         let d = desks[q];
         let n = numbers[q];
-        if follows(stamps, p, Place(q), first) {
-            let noted = note(first, d, n);
-            first = noted;
+        if follows(stamps, &first, p, Place(q)) {
+            note(&mut first, d, n);
         } else if past[d as usize - 1] < n {
             let k = list.count;
             list.desks[k] = d;
@@ -116,15 +121,17 @@ pub fn apart_list<'a>(
     numbers: &'a [u16; PLACES],
     stamps: &'a [u16; PLACES * WIDTH],
     count: usize,
+    tally: &'a [u16; WIDTH],
+    last: &'a [u16; WIDTH],
+    before: &'a [u16; PLACES],
     a: MarkId,
     room: usize,
 ) -> ApartList
-    requires { ⌜ (count ≤ places) × Named width count (now desks) ⌝ }
-    ensures { λ r. ⌜ ((own : ℕ) (bs : ℕ → MarkBox) (waiting : List Mark) → Sound (view width count (now (desks .entry)) (now (numbers .entry)) bs (now (stamps .entry))) → ApartFound (lent count (now (desks .entry)) (now (numbers .entry)) (now (stamps .entry)) own bs waiting) (idOf a) room r) ⌝ }
+    requires { ⌜ Lent count (now desks) (now numbers) (now tally) (now last) (now before) ⌝ }
+    ensures { λ r. ⌜ OfCount count desks numbers stamps tally last before (λ st. ApartFound st (idOf a) room r) ⌝ }
 {
-    let n = a.number;
-    let p = rows::find(desks, numbers, count, a.desk, n.0);
-    if count <= p {
+    let p = executed::find(tally, last, before, a);
+    if PLACES <= p {
         return refused(Refusal::NotExecuted);
     }
     let list = apart(desks, numbers, stamps, count, Place(p));

@@ -6,7 +6,7 @@ use mathlib.Core.Bool.{Bool, _||_, false}
 use mathlib.Core.List.{List, [], _∷_}
 use mathlib.Core.Logic.{inl, inr}
 use mathlib.Core.Option.{none, some}
-use mathlib.Core.Path.{_∙_, _≡_, refl, subst, sym}
+use mathlib.Core.Path.{_∙_, _≡_, ap, refl, subst, sym}
 use native.Mathlib.Omega.{arith}
 use Rattle.frame.specs.declared.MarkBox.{MarkBox}
 use Rattle.frame.specs.Mark.{MarkId}
@@ -16,8 +16,9 @@ use Rattle.causality.proofs.Lists.{Picked, any-find, find-all, find-has, has-se
 use Rattle.causality.proofs.Logic.{nT→eq, or-cases, or-inr, same-refl, same→eq, split}
 use Rattle.causality.proofs.Past.{fresh-of}
 use Rattle.causality.proofs.Reach.{Sound, not-new, precedes-at, precedes-listed, precedes-old, sound-counted}
-use Rattle.rows.specs.View.{markAt, placeAt, view}
+use Rattle.rows.specs.View.{Named, markAt, nameAt, namesDown, placeAt, view}
 use Rattle.rows.proofs.Arrays.{sound-below}
+use Rattle.rows.proofs.RowSteps.{named-at, named-less}
 
 module _ (n : ℕ) (ds ns : List ℕ) (bs : ℕ → MarkBox) (ss : List ℕ) where
   abbrev at : ℕ → Mark
@@ -25,6 +26,21 @@ module _ (n : ℕ) (ds ns : List ℕ) (bs : ℕ → MarkBox) (ss : List ℕ) whe
 
   abbrev marks : ℕ → List Mark
   marks count = view n count ds ns bs ss
+
+  -- The names do not depend on what else the marks carry.
+  pub ids-names : (count : ℕ) → ids (view n count ds ns bs ss) ≡ namesDown count ds ns
+  unfolding view
+  ids-names zero = refl
+  ids-names (suc k) = ap (λ (is : List MarkId). nameAt ds ns k ∷ is) (ids-names k)
+
+  -- A listed mark is of a desk from 1 to n.
+  pub named-has : (count : ℕ) → Named n count ds → (i : MarkId) → T (has i (ids (view n count ds ns bs ss))) → (1 ≤ i .desk) × (i .desk ≤ n)
+  unfolding view
+  named-has zero f i t = absurd t
+  named-has (suc k) f i t = elim (or-cases (same i ((markAt n ds ns bs ss k) .id)) (has i (ids (view n k ds ns bs ss))) t) [
+    | inl u ↦ rw (same→eq i ((markAt n ds ns bs ss k) .id) u) (named-at n (suc k) ds k f (omega arith))
+    | inr u ↦ named-has k (named-less n (suc k) ds k f (omega arith)) i u
+  ]
 
   pub has-more : (p q : ℕ) → p ≤ q → (i : MarkId) → T (has i (ids (view n p ds ns bs ss))) → T (has i (ids (view n q ds ns bs ss)))
   unfolding view

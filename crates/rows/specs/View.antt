@@ -1,4 +1,4 @@
--- The arrays of a desk as marks: rows of counts, the mark at a place, the executed marks newest first.
+-- Arrays as marks: rows of counts, the mark in a slot, the marks newest first. A desk's executed marks are laid out so, and its waiting ones.
 use mathlib.Core.Path.{_≡_}
 use mathlib.Core.Bool.{Bool, true, false, _&&_, _||_}
 use mathlib.Core.List.{List, [], _∷_}
@@ -7,10 +7,11 @@ use mathlib.Core.Option.{Option, none, some}
 use Prim.Native.Nat.{ℕ, zero, suc, _+_, _-_, _*_, _≤_, _<_}
 use lib.Dec.{leb, ltb, eqb}
 use lib.ListN.{length, getD}
-use Rattle.frame.specs.Mark.{desks}
+use Rattle.frame.specs.Mark.{MarkId, desks}
 use Rattle.frame.specs.declared.MarkBox.{MarkBox}
 use Rattle.causality.specs.State.{Mark}
 use Rattle.causality.proofs.RowLaws.{entriesOfRow}
+use Rattle.rows.specs.declared.Held.{Held}
 
 -- How many counts a row has: one for each desk.
 abbrev pub width : ℕ
@@ -19,6 +20,13 @@ width = desks
 -- A row: at desk d, the count that stands at d − 1.
 abbrev pub rowFn : List ℕ → ℕ → ℕ
 rowFn r d = getD r (d - 1) 0
+
+-- The name of a mark with its stamp as a row, and the mark.
+abbrev pub heldId : Held → MarkId
+heldId h = record { desk = h .desk; number = h .number .0 }
+
+abbrev pub heldMark : Held → Mark
+heldMark h = record { id = heldId h; extent = h .extent; stamp = entriesOfRow width (rowFn (h .row)) }
 
 -- Row p of stamps that are laid out row behind row, n counts each.
 abbrev pub rowAt : ℕ → List ℕ → ℕ → ℕ → ℕ
@@ -31,10 +39,18 @@ noBox = record { start = 0; end = 0; low = 0; high = 0 }
 abbrev pub boxAt : List ℕ → ℕ → MarkBox
 boxAt xs p = record { start = getD xs (p * 4) 0; end = getD xs (p * 4 + 1) 0; low = getD xs (p * 4 + 2) 0; high = getD xs (p * 4 + 3) 0 }
 
+-- The name at a place, and the first so many names, newest first.
+abbrev pub nameAt : List ℕ → List ℕ → ℕ → MarkId
+nameAt ds ns p = record { desk = getD ds p 0; number = getD ns p 0 }
+
+abbrev pub namesDown : ℕ → List ℕ → List ℕ → List MarkId
+namesDown zero ds ns = []
+namesDown (suc k) ds ns = nameAt ds ns k ∷ namesDown k ds ns
+
 -- The mark at place p: desks, numbers, boxes by place, stamps.
 abbrev pub markAt : ℕ → List ℕ → List ℕ → (ℕ → MarkBox) → List ℕ → ℕ → Mark
 markAt n ds ns bs ss p = record {
-  id = record { desk = getD ds p 0; number = getD ns p 0 };
+  id = nameAt ds ns p;
   extent = bs p;
   stamp = entriesOfRow n (rowAt n ss p);
 }
@@ -63,10 +79,6 @@ unfoldable pub namesIn : ℕ → List ℕ → ℕ
 namesIn zero r = 0
 namesIn (suc k) r = elim (ltb 0 (getD r k 0)) [ true ↦ suc (namesIn k r) | false ↦ namesIn k r ]
 
--- A head h of a desk with n marks, after a row that names mark x of that desk.
-abbrev pub struck : ℕ → ℕ → ℕ → ℕ
-struck x n h = elim (eqb x n) [ true ↦ 0 | false ↦ h ]
-
 -- The mark at a place below the count, or none.
 unfoldable pub placeAt : ℕ → ℕ → ℕ → List ℕ → List ℕ → (ℕ → MarkBox) → List ℕ → Option Mark
 placeAt n count p ds ns bs ss = elim (ltb p count) [ true ↦ some (markAt n ds ns bs ss p) | false ↦ none ]
@@ -85,3 +97,10 @@ pub record ZeroFrom (xs : List ℕ) (n k : ℕ) : Type 0 where
 pub record SameOutside (before after : List ℕ) (base n : ℕ) : Type 0 where
   pub long : length after ≡ length before
   pub same : (q : ℕ) → (q < base) ⊎ (base + n ≤ q) → getD after q 0 ≡ getD before q 0
+
+-- Arrays with room for n marks, of which the slots from the count on are zero.
+pub record Slots (n count : ℕ) (ds ns bs ss : List ℕ) : Type 0 where
+  pub desks : ZeroFrom ds n count
+  pub numbers : ZeroFrom ns n count
+  pub boxes : ZeroFrom bs (n * 4) (count * 4)
+  pub stamps : ZeroFrom ss (n * width) (count * width)

@@ -7,16 +7,18 @@ ghost use lib.Dec.{leb, ltb};
 ghost use lib.ListN.{length, getD, take};
 ghost use Rattle.frame.specs.Frame.{entriesOf, entryBytes};
 ghost use Rattle.frame.specs.declared.MarkBox.{MarkBox};
-ghost use Rattle.causality.specs.Marks.{places, has, tally, find};
-ghost use Rattle.causality.specs.State.{ids, heads, markId};
+ghost use Rattle.causality.specs.Marks.{places, has};
+ghost use Rattle.causality.specs.State.{ids};
 ghost use Rattle.causality.proofs.Rows.{rowOf};
 ghost use Rattle.causality.proofs.Reach.{Sound};
-ghost use Rattle.causality.proofs.RowLaws.{under, entriesOfRow};
-ghost use Rattle.rows.specs.View.{width, rowFn, view, Named, allWithin, someReached, namesIn, struck, placeAt, sameCounts, boxAt, SameOutside};
+ghost use Rattle.causality.proofs.RowLaws.{entriesOfRow};
+ghost use Rattle.rows.specs.View.{width, rowFn, view, markAt, heldMark, Named, allWithin, someReached, namesIn, sameCounts, boxAt, SameOutside};
+ghost use Rattle.rows.specs.Steps.{Joined, Traced, HasSlot, Stored};
 use causality::Place;
 use frame::DESKS;
 use frame::MarkBox;
 use frame::NUMBERS;
+use frame::Number;
 
 // A row has a count for each desk; a desk has so many places.
 pub const WIDTH: usize = DESKS as usize;
@@ -26,27 +28,37 @@ pub const PLACES: usize = NUMBERS as usize;
 // Values of a box.
 pub const BOX: usize = 4;
 
-// At each desk the greater of the row's count and that of row p of the stamps.
-pub fn join(stamps: &[u16; PLACES * WIDTH], p: usize, mut row: [u16; WIDTH]) -> [u16; WIDTH]
-    requires { ⌜ p < places ⌝ }
-    ensures { λ r. ⌜ ((j : ℕ) → j < width → getD r j 0 ≡ max (getD row j 0) (getD (now (stamps .entry)) (p * width + j) 0)) ⌝ }
+// A mark with its stamp as a row: at index d − 1 the number that it names of desk d, or 0.
+pub struct Held {
+    pub desk: u8,
+    pub number: Number,
+    pub extent: MarkBox,
+    pub row: [u16; WIDTH],
+}
+
+fn greater(x: u16, y: u16) -> u16
+    ensures { λ r. ⌜ r ≡ max x y ⌝ }
+{
+    if x < y { y } else { x }
+}
+
+// At each desk the greater of the row's count and that of row p of the stamps. Each count is stored, so that the loop becomes vector code.
+pub fn join(stamps: &[u16; PLACES * WIDTH], p: usize, row: &mut [u16; WIDTH])
+    requires { ⌜ (p < places) × (length (now row) ≡ width) ⌝ }
+    ensures { λ _. ⌜ Joined (now (stamps .entry)) p (now (row .entry)) (now (row .exit)) ⌝ }
 {
     let base = p * WIDTH;
     let mut j = 0;
     while j < WIDTH {
-        let x = stamps[base + j];
-        if row[j] < x {
-            row[j] = x;
-        }
+        row[j] = greater(row[j], stamps[base + j]);
         j += 1;
     }
-    row
 }
 
 // Is mark n of the desk at index d among those that one of two rows counts?
-pub fn counted(entries: [u16; WIDTH], below: [u16; WIDTH], d: usize, n: u16) -> bool
+pub fn counted<'a>(entries: &'a [u16; WIDTH], below: &'a [u16; WIDTH], d: usize, n: u16) -> bool
     requires { ⌜ d < width ⌝ }
-    ensures { λ r. ⌜ r ≡ leb n (max (getD entries d 0) (getD below d 0)) ⌝ }
+    ensures { λ r. ⌜ r ≡ leb n (max (getD (now (entries .entry)) d 0) (getD (now (below .entry)) d 0)) ⌝ }
 {
     if n <= entries[d] {
         return true;
@@ -54,36 +66,30 @@ pub fn counted(entries: [u16; WIDTH], below: [u16; WIDTH], d: usize, n: u16) -> 
     n <= below[d]
 }
 
-// Follows stamp entries down from a place to another: of the marks between, those that precede an entry are added to `below`.
+// Follows stamp entries down from a place to another: of the marks between, those that precede an entry are added to `below`, which is lent.
 // The rest of the pass then gives what the whole pass gives. The place of the examined mark falls at each call.
 pub fn trace<'a>(
     desks: &'a [u8; PLACES],
     numbers: &'a [u16; PLACES],
     stamps: &'a [u16; PLACES * WIDTH],
-    entries: [u16; WIDTH],
-    below: [u16; WIDTH],
+    entries: &'a [u16; WIDTH],
+    below: &mut [u16; WIDTH],
     at: Place,
     to: Place,
-) -> [u16; WIDTH]
-    requires { ⌜ (at .0 ≤ places) × Named width (at .0) (now desks) × (to .0 ≤ at .0) ⌝ }
-    ensures { λ r. ⌜ ((bs : ℕ → MarkBox) (j : ℕ) → j < width → under (view width (to .0) (now (desks .entry)) (now (numbers .entry)) bs (now (stamps .entry))) (rowFn entries) (rowFn r) (suc j) ≡ under (view width (at .0) (now (desks .entry)) (now (numbers .entry)) bs (now (stamps .entry))) (rowFn entries) (rowFn below) (suc j)) ⌝ }
+)
+    requires { ⌜ (at .0 ≤ places) × Named width (at .0) (now desks) × (to .0 ≤ at .0) × (length (now below) ≡ width) ⌝ }
+    ensures { λ _. ⌜ Traced (now (desks .entry)) (now (numbers .entry)) (now (stamps .entry)) (now (entries .entry))
+        (at .0) (now (below .entry)) (to .0) (now (below .exit)) ⌝ }
 {
     if at.0 <= to.0 {
-        return below;
+        return;
     }
     let p = at.0 - 1;
     let d = desks[p] as usize;
     let n = numbers[p];
     if counted(entries, below, d - 1, n) {
-        trace(
-            desks,
-            numbers,
-            stamps,
-            entries,
-            join(stamps, p, below),
-            Place(p),
-            to,
-        )
+        join(stamps, p, below);
+        trace(desks, numbers, stamps, entries, below, Place(p), to)
     } else {
         trace(desks, numbers, stamps, entries, below, Place(p), to)
     }
@@ -133,21 +139,6 @@ pub fn oldest<'a>(
     p
 }
 
-// The tally: for each desk, how many of the first so many marks are its.
-pub fn tally(desks: &[u8; PLACES], count: usize) -> [u16; WIDTH]
-    requires { ⌜ (count ≤ places) × Named width count (now desks) ⌝ }
-    ensures { λ r. ⌜ ((ns ss : List ℕ) (bs : ℕ → MarkBox) (j : ℕ) → j < width → getD r j 0 ≡ tally (suc j) (ids (view width count (now (desks .entry)) ns bs ss))) ⌝ }
-{
-    let mut t = [0u16; WIDTH];
-    let mut p = 0;
-    while p < count {
-        let d = desks[p] as usize;
-        t[d - 1] = t[d - 1] + 1;
-        p += 1;
-    }
-    t
-}
-
 // The readiness test, by the tally: all entries are executed, and so is the desk's previous mark.
 pub fn ready(tally: [u16; WIDTH], desk: u8, number: u16, row: [u16; WIDTH]) -> bool
     requires { ⌜ (1 ≤ desk) × (desk ≤ width) ⌝ }
@@ -181,48 +172,7 @@ pub fn false_stamp(entries: [u16; WIDTH], below: [u16; WIDTH], desk: u8, number:
     if number <= 1 {
         return false;
     }
-    !counted(entries, below, desk as usize - 1, number - 1)
-}
-
-// Strikes each head that row p of the stamps names: heads start as the tally, the last mark of each desk.
-fn strike(
-    stamps: &[u16; PLACES * WIDTH],
-    p: usize,
-    tally: [u16; WIDTH],
-    mut heads: [u16; WIDTH],
-) -> [u16; WIDTH]
-    requires { ⌜ p < places ⌝ }
-    ensures { λ r. ⌜ ((j : ℕ) → j < width → getD r j 0 ≡ struck (getD (now (stamps .entry)) (p * width + j) 0) (getD tally j 0) (getD heads j 0)) ⌝ }
-{
-    let base = p * WIDTH;
-    let mut j = 0;
-    while j < WIDTH {
-        if stamps[base + j] == tally[j] {
-            heads[j] = 0;
-        }
-        j += 1;
-    }
-    heads
-}
-
-// The heads as a row: for each desk the number of its last mark, where no stamp names it; else 0.
-pub fn heads<'a>(
-    desks: &'a [u8; PLACES],
-    stamps: &'a [u16; PLACES * WIDTH],
-    count: usize,
-) -> [u16; WIDTH]
-    requires { ⌜ (count ≤ places) × Named width count (now desks) ⌝ }
-    ensures { λ r. ⌜ ((ns : List ℕ) (bs : ℕ → MarkBox) → Sound (view width count (now (desks .entry)) ns bs (now (stamps .entry))) → (j : ℕ) → j < width → getD r j 0 ≡ rowOf (heads (view width count (now (desks .entry)) ns bs (now (stamps .entry)))) (suc j)) ⌝ }
-{
-    let t = tally(desks, count);
-    let mut h = t;
-    let mut p = 0;
-    while p < count {
-        let struck = strike(stamps, p, t, h);
-        h = struck;
-        p += 1;
-    }
-    h
+    !counted(&entries, &below, desk as usize - 1, number - 1)
 }
 
 // The row of entries that are given as bytes.
@@ -274,32 +224,9 @@ pub fn entries_of(row: [u16; WIDTH]) -> Entries
     }
 }
 
-// The place of a mark among the first so many, or their count. Goes down from the newest mark, and by the number, which few marks share.
-pub fn find<'a>(
-    desks: &'a [u8; PLACES],
-    numbers: &'a [u16; PLACES],
-    count: usize,
-    desk: u8,
-    number: u16,
-) -> usize
-    requires { ⌜ count ≤ places ⌝ }
-    ensures { λ r. ⌜ ((bs : ℕ → MarkBox) (ss : List ℕ) → placeAt width count r (now (desks .entry)) (now (numbers .entry)) bs ss ≡ find markId (record { desk = desk; number = number }) (view width count (now (desks .entry)) (now (numbers .entry)) bs ss)) × (r ≤ count) ⌝ }
-{
-    let mut p = count;
-    while 0 < p {
-        p -= 1;
-        if numbers[p] == number {
-            if desks[p] == desk {
-                return p;
-            }
-        }
-    }
-    count
-}
-
-// Row p of the stamps.
-pub fn row_at(stamps: &[u16; PLACES * WIDTH], p: usize) -> [u16; WIDTH]
-    requires { ⌜ p < places ⌝ }
+// Row p of stamps that are laid out row behind row.
+pub fn row_at(stamps: &[u16], p: usize) -> [u16; WIDTH]
+    requires { ⌜ p * width + width ≤ length (now stamps) ⌝ }
     ensures { λ r. ⌜ ((j : ℕ) → j < width → getD r j 0 ≡ getD (now (stamps .entry)) (p * width + j) 0) ⌝ }
 {
     let base = p * WIDTH;
@@ -313,9 +240,10 @@ pub fn row_at(stamps: &[u16; PLACES * WIDTH], p: usize) -> [u16; WIDTH]
 }
 
 // Stores row p of the stamps.
-pub fn put_row(stamps: &mut [u16; PLACES * WIDTH], p: usize, row: [u16; WIDTH])
-    requires { ⌜ (length (now stamps) ≡ places * width) × (p < places) ⌝ }
-    ensures { λ _. ⌜ SameOutside (now (stamps .entry)) (now (stamps .exit)) (p * width) width × ((j : ℕ) → j < width → getD (now (stamps .exit)) (p * width + j) 0 ≡ getD row j 0) ⌝ }
+fn put_row(stamps: &mut [u16], p: usize, row: [u16; WIDTH])
+    requires { ⌜ p * width + width ≤ length (now stamps) ⌝ }
+    ensures { λ _. ⌜ SameOutside (now (stamps .entry)) (now (stamps .exit)) (p * width) width
+        × ((j : ℕ) → j < width → getD (now (stamps .exit)) (p * width + j) 0 ≡ getD row j 0) ⌝ }
 {
     let base = p * WIDTH;
     let mut j = 0;
@@ -325,9 +253,9 @@ pub fn put_row(stamps: &mut [u16; PLACES * WIDTH], p: usize, row: [u16; WIDTH])
     }
 }
 
-// Box p of the boxes.
-pub fn box_at(boxes: &[u32; PLACES * BOX], p: usize) -> MarkBox
-    requires { ⌜ p < places ⌝ }
+// Box p of boxes that are laid out one behind another.
+fn box_at(boxes: &[u32], p: usize) -> MarkBox
+    requires { ⌜ p * 4 + 4 ≤ length (now boxes) ⌝ }
     ensures { λ r. ⌜ r ≡ boxAt (now (boxes .entry)) p ⌝ }
 {
     let base = p * BOX;
@@ -340,8 +268,8 @@ pub fn box_at(boxes: &[u32; PLACES * BOX], p: usize) -> MarkBox
 }
 
 // Stores box p of the boxes.
-pub fn put_box(boxes: &mut [u32; PLACES * BOX], p: usize, extent: MarkBox)
-    requires { ⌜ (length (now boxes) ≡ places * 4) × (p < places) ⌝ }
+fn put_box(boxes: &mut [u32], p: usize, extent: MarkBox)
+    requires { ⌜ p * 4 + 4 ≤ length (now boxes) ⌝ }
     ensures { λ _. ⌜ SameOutside (now (boxes .entry)) (now (boxes .exit)) (p * 4) 4 × (boxAt (now (boxes .exit)) p ≡ extent) ⌝ }
 {
     let base = p * BOX;
@@ -349,6 +277,49 @@ pub fn put_box(boxes: &mut [u32; PLACES * BOX], p: usize, extent: MarkBox)
     boxes[base + 1] = extent.end;
     boxes[base + 2] = extent.low;
     boxes[base + 3] = extent.high;
+}
+
+// The mark in slot p of arrays laid out as a desk's executed marks are, and as its waiting ones.
+pub fn mark_at<'a>(
+    desks: &'a [u8],
+    numbers: &'a [u16],
+    boxes: &'a [u32],
+    stamps: &'a [u16],
+    p: usize,
+) -> Held
+    requires { ⌜ HasSlot p (now desks) (now numbers) (now boxes) (now stamps) ⌝ }
+    ensures { λ r. ⌜ heldMark r ≡ markAt width (now (desks .entry)) (now (numbers .entry)) (boxAt (now (boxes .entry))) (now (stamps .entry)) p ⌝ }
+{
+    let extent = box_at(boxes, p);
+    let row = row_at(stamps, p);
+    Held {
+        desk: desks[p],
+        number: Number(numbers[p]),
+        extent: extent,
+        row: row,
+    }
+}
+
+// Stores a mark in slot p.
+pub fn store(
+    desks: &mut [u8],
+    numbers: &mut [u16],
+    boxes: &mut [u32],
+    stamps: &mut [u16],
+    p: usize,
+    h: Held,
+)
+    requires { ⌜ HasSlot p (now desks) (now numbers) (now boxes) (now stamps) ⌝ }
+    ensures { λ _. ⌜ Stored p h (now (desks .entry)) (now (numbers .entry)) (now (boxes .entry)) (now (stamps .entry))
+        (now (desks .exit)) (now (numbers .exit)) (now (boxes .exit)) (now (stamps .exit)) ⌝ }
+{
+    let number = h.number;
+    let extent = h.extent;
+    let row = h.row;
+    put_row(stamps, p, row);
+    put_box(boxes, p, extent);
+    desks[p] = h.desk;
+    numbers[p] = number.0;
 }
 
 // Do two rows have the same counts?

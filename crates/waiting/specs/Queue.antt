@@ -1,50 +1,99 @@
--- The waiting marks as an array: the marks held, newest first, and unused slots that hold nothing.
+-- The waiting marks as arrays: the marks that they are, unused slots, and what a call does to them.
 use mathlib.Core.Path.{_≡_}
-use mathlib.Core.Bool.{Bool, true, false, _&&_}
+use mathlib.Core.Bool.{false}
 use mathlib.Core.List.{List, [], _∷_}
-use mathlib.Core.Option.{Option, none, some}
-use Prim.Native.Nat.{ℕ, zero, suc, _-_, _≤_, _<_}
-use lib.Dec.{leb, ltb}
-use lib.ListN.{length, getD, replicate}
+use mathlib.Core.Logic.{_⊎_}
+use Prim.Native.Nat.{ℕ, zero, suc, _+_, _-_, _≤_, _<_}
+use denote.Ref.{RefT}
+use denote.Triple.Both.{Both}
+use lib.ListN.{length, getD}
 use Rattle.frame.specs.Mark.{MarkId}
-use Rattle.causality.specs.Marks.{waitingPlaces}
-use Rattle.causality.specs.State.{Mark}
-use Rattle.causality.proofs.RowLaws.{entriesOfRow}
-use Rattle.rows.specs.View.{width, rowFn, noBox, allWithin}
-use Rattle.waiting.specs.declared.Held.{Held}
+use Rattle.frame.specs.declared.MarkBox.{MarkBox}
+use Rattle.causality.specs.Marks.{find, has, lowest, tally, waitingPlaces, without}
+use Rattle.causality.specs.State.{Mark, ids, markId, ready}
+use Rattle.causality.proofs.Past.{Counted}
+use Rattle.rows.specs.View.{Slots, boxAt, heldMark, placeAt, view, width}
+use Rattle.rows.specs.declared.Held.{Held}
 use Rattle.waiting.specs.declared.Waiting.{Waiting}
 
-abbrev pub heldId : Held → MarkId
-heldId h = record { desk = h .desk; number = h .number .0 }
+-- The waiting marks, newest first.
+abbrev pub waitingIn : Waiting → List Mark
+waitingIn q = view width (q .count) (q .desks) (q .numbers) (boxAt (q .boxes)) (q .stamps)
 
--- The mark that is held with its stamp as a row.
-abbrev pub heldMark : Held → Mark
-heldMark h = record { id = heldId h; extent = h .extent; stamp = entriesOfRow width (rowFn (h .row)) }
-
--- What an unused slot holds.
-abbrev pub noHeld : Held
-noHeld = record { desk = 0; number = record { 0 = 0 }; extent = noBox; row = replicate width 0 }
-
--- The first so many of the slots, newest first.
-unfoldable pub heldsOf : ℕ → List Held → List Held
-heldsOf zero hs = []
-heldsOf (suc p) hs = getD hs p noHeld ∷ heldsOf p hs
-
--- The slot at an index below the count, or none.
-unfoldable pub slotAt : ℕ → ℕ → List Held → Option Held
-slotAt count i hs = elim (ltb i count) [ true ↦ some (getD hs i noHeld) | false ↦ none ]
-
--- The readiness test by the tally t.
-unfoldable pub readyBy : List ℕ → Held → Bool
-readyBy t h = allWithin width (h .row) t && leb (h .number .0) (suc (getD t (h .desk - 1) 0))
-
--- A queue in order: as many slots as there are places for waiting marks, rows of the width, no more marks than slots, and nothing in those unused.
+-- A queue in order: no more marks than slots, and zeros in those unused.
 pub record Queued (q : Waiting) : Type 0 where
   pub few : q .count ≤ waitingPlaces
-  pub long : length (q .held) ≡ waitingPlaces
-  pub rows : (p : ℕ) → length (getD (q .held) p noHeld .row) ≡ width
-  pub unused : (p : ℕ) → q .count ≤ p → getD (q .held) p noHeld ≡ noHeld
+  pub slots : Slots waitingPlaces (q .count) (q .desks) (q .numbers) (q .boxes) (q .stamps)
 
--- Each mark held is of a desk from 1 to the width.
-unfoldable pub HeldNamed : ℕ → List Held → Type 0
-HeldNamed count hs = (p : ℕ) → p < count → (1 ≤ getD hs p noHeld .desk) × (getD hs p noHeld .desk ≤ width)
+-- The queue of a count and four arrays.
+abbrev pub queueOf : ℕ → List ℕ → List ℕ → List ℕ → List ℕ → Waiting
+queueOf count ds ns bs ss = record { count = count; desks = ds; numbers = ns; boxes = bs; stamps = ss }
+
+-- What a contract has of a lent parameter: as found and as left.
+abbrev pub Lending : Type 0 → Type 0
+Lending A = Both (RefT A) (RefT A)
+
+-- The queue of lent arrays as they are, as found and as left.
+abbrev pub here : RefT ℕ → RefT (List ℕ) → RefT (List ℕ) → RefT (List ℕ) → RefT (List ℕ) → Waiting
+here count ds ns bs ss = queueOf (count .now) (ds .now) (ns .now) (bs .now) (ss .now)
+
+abbrev pub found : Lending ℕ → Lending (List ℕ) → Lending (List ℕ) → Lending (List ℕ) → Lending (List ℕ) → Waiting
+found count ds ns bs ss = here (count .entry) (ds .entry) (ns .entry) (bs .entry) (ss .entry)
+
+abbrev pub left : Lending ℕ → Lending (List ℕ) → Lending (List ℕ) → Lending (List ℕ) → Lending (List ℕ) → Waiting
+left count ds ns bs ss = here (count .exit) (ds .exit) (ns .exit) (bs .exit) (ss .exit)
+
+-- The name d.n.
+abbrev pub named : ℕ → ℕ → MarkId
+named d n = record { desk = d; number = n }
+
+-- Each of the first so many numbers is 1 or more.
+unfoldable pub Numbered : ℕ → List ℕ → Type 0
+Numbered count ns = (p : ℕ) → p < count → 1 ≤ getD ns p 0
+
+-- The numbers at from to below to came from w further on; the others are as they were.
+pub record Closed (w : ℕ) (before after : List ℕ) (from to : ℕ) : Type 0 where
+  pub long : length after ≡ length before
+  pub moved : (q : ℕ) → from ≤ q → q < to → getD after q 0 ≡ getD before (q + w) 0
+  pub rest : (q : ℕ) → (q < from) ⊎ (to ≤ q) → getD after q 0 ≡ getD before q 0
+
+-- A list without its element at an index.
+abbrev pub takenOut : ℕ → List Mark → List Mark
+takenOut j [] = []
+takenOut zero (x ∷ xs) = xs
+takenOut (suc j) (x ∷ xs) = x ∷ takenOut j xs
+
+-- No two marks of the list have the same name.
+abbrev pub Distinct : List Mark → Type 0
+Distinct [] = Unit {0}
+Distinct (x ∷ xs) = (has (x .id) (ids xs) ≡ false) × Distinct xs
+
+-- One mark more, behind the others.
+pub record Pushed (h : Held) (q r : Waiting) : Type 0 where
+  pub one : r .count ≡ q .count + 1
+  pub queued : Queued r
+  pub marks : waitingIn r ≡ heldMark h ∷ waitingIn q
+
+-- The mark of slot i is gone, the others are in their order. It goes by its name where no other has that.
+pub record Removed (i : ℕ) (q r : Waiting) : Type 0 where
+  pub one : q .count ≡ r .count + 1
+  pub queued : Queued r
+  pub others : waitingIn r ≡ takenOut (r .count - i) (waitingIn q)
+  pub marks : Distinct (waitingIn q)
+      → waitingIn r ≡ without markId (named (getD (q .desks) i 0) (getD (q .numbers) i 0)) (waitingIn q)
+
+-- The slot of the mark of a name, or the count.
+pub record FoundAt (d n count : ℕ) (ds ns : List ℕ) (r : ℕ) : Type 0 where
+  pub few : r ≤ count
+  pub mark : (bs : ℕ → MarkBox) (ss : List ℕ) → placeAt width count r ds ns bs ss ≡ find markId (named d n) (view width count ds ns bs ss)
+
+-- The tally of executed marks for n desks, each numbered behind those of its desk before it.
+pub record TallyOf (n : ℕ) (l : List Mark) (t : List ℕ) : Type 0 where
+  pub counted : Counted (ids l)
+  pub tallied : (d : ℕ) → 1 ≤ d → d ≤ n → getD t (d - 1) 0 ≡ tally d (ids l)
+
+-- The slot of the ready mark of lowest desk, or the count, whatever marks are executed that have this tally.
+pub record LowestAt (t : List ℕ) (count : ℕ) (ds ns ss : List ℕ) (r : ℕ) : Type 0 where
+  pub few : r ≤ count
+  pub mark : (l : List Mark) (bs : ℕ → MarkBox) → TallyOf width l t
+      → placeAt width count r ds ns bs ss ≡ lowest markId (ready l) (view width count ds ns bs ss)

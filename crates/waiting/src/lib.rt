@@ -1,37 +1,109 @@
-// The waiting marks of a desk: an array of marks in order of arrival, by value.
+// The waiting marks of a desk: flat arrays, lent and changed in place.
 ghost use mathlib.Core.Path.{_≡_};
-ghost use mathlib.Core.List.{[], _∷_};
-ghost use Prim.Native.Nat.{_<_};
-ghost use lib.ListN.{getD, replicate};
-ghost use Rattle.causality.specs.Marks.{waitingPlaces, same, find, without, lowest};
-ghost use Rattle.waiting.specs.Queue.{heldId, noHeld, heldsOf, slotAt, readyBy, Queued, HeldNamed};
+ghost use mathlib.Core.List.{[]};
+ghost use Prim.Native.Nat.{_+_, _≤_, _<_};
+ghost use lib.ListN.{length};
+ghost use Rattle.causality.specs.Marks.{waitingPlaces};
+ghost use Rattle.rows.specs.View.{width, Named};
+ghost use Rattle.waiting.specs.Queue.{Queued, waitingIn, here, found, left, Numbered, Closed, Pushed, Removed, FoundAt, LowestAt};
 use frame::MarkBox;
 use frame::Number;
+use rows::BOX;
+use rows::Held;
 use rows::WIDTH;
 
 // Waiting marks at most.
 pub const WAITING: usize = 64;
 
-// A mark with its stamp as a row: at index d − 1 the number that it names of desk d, or 0.
-#[repr(C)]
-pub struct Held {
-    pub desk: u8,
-    pub number: Number,
-    pub extent: MarkBox,
-    pub row: [u16; WIDTH],
-}
-
+// The waiting marks of a desk in order of arrival, laid out as its executed marks are. Unused slots are zero.
 #[repr(C)]
 pub struct Waiting {
     pub count: usize,
-    pub held: [Held; WAITING],
+    pub desks: [u8; WAITING],
+    pub numbers: [u16; WAITING],
+    pub boxes: [u32; WAITING * BOX],
+    pub stamps: [u16; WAITING * WIDTH],
 }
 
-// What an unused slot holds.
-pub fn no_held() -> Held
-    ensures { λ r. ⌜ r ≡ noHeld ⌝ }
+pub fn empty() -> Waiting
+    ensures { λ r. ⌜ Queued r × (waitingIn r ≡ []) ⌝ }
 {
-    Held {
+    Waiting {
+        count: 0,
+        desks: [0; WAITING],
+        numbers: [0; WAITING],
+        boxes: [0; WAITING * BOX],
+        stamps: [0; WAITING * WIDTH],
+    }
+}
+
+// One more, behind the others.
+pub fn push(
+    count: &mut usize,
+    desks: &mut [u8; WAITING],
+    numbers: &mut [u16; WAITING],
+    boxes: &mut [u32; WAITING * BOX],
+    stamps: &mut [u16; WAITING * WIDTH],
+    h: Held,
+)
+    requires { ⌜ Queued (here count desks numbers boxes stamps) × (now count < waitingPlaces) ⌝ }
+    ensures { λ _. ⌜ Pushed h (found count desks numbers boxes stamps) (left count desks numbers boxes stamps) ⌝ }
+{
+    let at = *count;
+    rows::store(desks, numbers, boxes, stamps, at, h);
+    *count = at + 1;
+}
+
+// A gap of w numbers at `from` is closed: those behind it move down by w. At `to` the last ones stand as before.
+fn close(xs: &mut [u16], from: usize, to: usize, w: usize)
+    requires { ⌜ (from ≤ to) × (to + w ≤ length (now xs)) ⌝ }
+    ensures { λ _. ⌜ Closed w (now (xs .entry)) (now (xs .exit)) from to ⌝ }
+{
+    let mut k = from;
+    while k < to {
+        xs[k] = xs[k + w];
+        k += 1;
+    }
+}
+
+// The same of desks, one value a slot.
+fn close_desks(desks: &mut [u8], from: usize, to: usize)
+    requires { ⌜ (from ≤ to) × (to + 1 ≤ length (now desks)) ⌝ }
+    ensures { λ _. ⌜ Closed 1 (now (desks .entry)) (now (desks .exit)) from to ⌝ }
+{
+    let mut k = from;
+    while k < to {
+        desks[k] = desks[k + 1];
+        k += 1;
+    }
+}
+
+// The same of boxes, four values a slot.
+fn close_boxes(boxes: &mut [u32], from: usize, to: usize)
+    requires { ⌜ (from ≤ to) × (to + 4 ≤ length (now boxes)) ⌝ }
+    ensures { λ _. ⌜ Closed 4 (now (boxes .entry)) (now (boxes .exit)) from to ⌝ }
+{
+    let mut k = from;
+    while k < to {
+        boxes[k] = boxes[k + BOX];
+        k += 1;
+    }
+}
+
+// Takes out the mark of slot i: the later ones move down by one, and the slot that is freed is zero.
+pub fn remove(
+    count: &mut usize,
+    desks: &mut [u8; WAITING],
+    numbers: &mut [u16; WAITING],
+    boxes: &mut [u32; WAITING * BOX],
+    stamps: &mut [u16; WAITING * WIDTH],
+    i: usize,
+)
+    requires { ⌜ Queued (here count desks numbers boxes stamps) × (i < now count) ⌝ }
+    ensures { λ _. ⌜ Removed i (found count desks numbers boxes stamps) (left count desks numbers boxes stamps) ⌝ }
+{
+    let last = *count - 1;
+    let none = Held {
         desk: 0,
         number: Number(0),
         extent: MarkBox {
@@ -41,118 +113,62 @@ pub fn no_held() -> Held
             high: 0,
         },
         row: [0; WIDTH],
-    }
+    };
+    close_desks(desks, i, last);
+    close(numbers, i, last, 1);
+    close_boxes(boxes, i * BOX, last * BOX);
+    close(stamps, i * WIDTH, last * WIDTH, WIDTH);
+    rows::store(desks, numbers, boxes, stamps, last, none);
+    *count = last;
 }
 
-fn no_helds() -> [Held; WAITING]
-    ensures { λ r. ⌜ r ≡ replicate waitingPlaces noHeld ⌝ }
+// The slot of a mark, or the count.
+pub fn find<'a>(
+    desks: &'a [u8; WAITING],
+    numbers: &'a [u16; WAITING],
+    count: usize,
+    desk: u8,
+    number: u16,
+) -> usize
+    requires { ⌜ count ≤ waitingPlaces ⌝ }
+    ensures { λ r. ⌜ FoundAt desk number count (now (desks .entry)) (now (numbers .entry)) r ⌝ }
 {
-    let none = no_held();
-    [none; WAITING]
+    let mut p = count;
+    while 0 < p {
+        p -= 1;
+        if numbers[p] == number {
+            if desks[p] == desk {
+                return p;
+            }
+        }
+    }
+    count
 }
 
-pub fn empty() -> Waiting
-    ensures { λ r. ⌜ Queued r × (heldsOf (r .count) (r .held) ≡ []) ⌝ }
+// The slot of the ready mark of lowest desk, by the tally, or the count.
+pub fn lowest_ready<'a>(
+    desks: &'a [u8; WAITING],
+    numbers: &'a [u16; WAITING],
+    stamps: &'a [u16; WAITING * WIDTH],
+    count: usize,
+    tally: [u16; WIDTH],
+) -> usize
+    requires { ⌜ (count ≤ waitingPlaces) × Named width count (now desks) × Numbered count (now numbers) ⌝ }
+    ensures { λ r. ⌜ LowestAt tally count (now (desks .entry)) (now (numbers .entry)) (now (stamps .entry)) r ⌝ }
 {
-    let none = no_helds();
-    Waiting {
-        count: 0,
-        held: none,
-    }
-}
-
-// Is it the mark of this desk and number?
-fn is(h: Held, desk: u8, number: u16) -> bool
-    ensures { λ r. ⌜ r ≡ same (record { desk = desk; number = number }) (heldId h) ⌝ }
-{
-    let n = h.number;
-    if h.desk != desk {
-        return false;
-    }
-    n.0 == number
-}
-
-impl Waiting {
-    // The mark in a slot.
-    pub fn at(self, i: usize) -> Held
-        requires { ⌜ i < waitingPlaces ⌝ }
-        ensures { λ r. ⌜ r ≡ getD (self .held) i noHeld ⌝ }
-    {
-        self.held[i]
-    }
-
-    // The index of a mark among those held, or the count.
-    pub fn find(self, desk: u8, number: u16) -> usize
-        requires { ⌜ Queued self ⌝ }
-        ensures { λ r. ⌜ slotAt (self .count) r (self .held) ≡ find heldId (record { desk = desk; number = number }) (heldsOf (self .count) (self .held)) ⌝ }
-    {
-        let count = self.count;
-        let mut found = count;
-        let mut i = 0;
-        while i < count {
-            let h = self.held[i];
-            if is(h, desk, number) {
-                found = i;
+    let mut best = count;
+    let mut lowest: u8 = 255;
+    let mut i = 0;
+    while i < count {
+        let desk = desks[i];
+        let row = rows::row_at(stamps, i);
+        if rows::ready(tally, desk, numbers[i], row) {
+            if desk <= lowest {
+                best = i;
+                lowest = desk;
             }
-            i += 1;
         }
-        found
+        i += 1;
     }
-
-    // The index of the ready one of lowest desk, by the tally, or the count.
-    pub fn lowest_ready(self, tally: [u16; WIDTH]) -> usize
-        requires { ⌜ Queued self × HeldNamed (self .count) (self .held) ⌝ }
-        ensures { λ r. ⌜ slotAt (self .count) r (self .held) ≡ lowest heldId (readyBy tally) (heldsOf (self .count) (self .held)) ⌝ }
-    {
-        let count = self.count;
-        let mut best = count;
-        let mut lowest: u8 = 255;
-        let mut i = 0;
-        while i < count {
-            let h = self.held[i];
-            let n = h.number;
-            let row = h.row;
-            if rows::ready(tally, h.desk, n.0, row) {
-                if h.desk <= lowest {
-                    best = i;
-                    lowest = h.desk;
-                }
-            }
-            i += 1;
-        }
-        best
-    }
-
-    // One more, behind the others.
-    pub fn push(mut self, h: Held) -> Waiting
-        requires { ⌜ Queued self × (self .count < waitingPlaces) ⌝ }
-        ensures { λ r. ⌜ Queued r × (heldsOf (r .count) (r .held) ≡ h ∷ heldsOf (self .count) (self .held)) ⌝ }
-    {
-        let at = self.count;
-        self.held[at] = h;
-        self.count = at + 1;
-        self
-    }
-
-    // The others than a mark, in their order.
-    pub fn without(self, desk: u8, number: u16) -> Waiting
-        requires { ⌜ Queued self ⌝ }
-        ensures { λ r. ⌜ Queued r × (heldsOf (r .count) (r .held) ≡ without heldId (record { desk = desk; number = number }) (heldsOf (self .count) (self .held))) ⌝ }
-    {
-        let mut held = no_helds();
-        let mut count = 0;
-        let mut i = 0;
-        while i < self.count {
-            let h = self.held[i];
-            if !is(h, desk, number) {
-                held[count] = h;
-                count += 1;
-            }
-            i += 1;
-        }
-        Waiting {
-            count: count,
-            held: held,
-        }
-    }
+    best
 }

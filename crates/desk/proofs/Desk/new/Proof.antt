@@ -22,14 +22,14 @@ returns c =
     let d = c .before .before .before .args .own in
     let e = given d (sym (c .before .before .is-desk .ensures) ∙ c .before .if1 .taken) in
     let s = c .blank .ensures .0 ∙ ap (λ (x : Created). x .state) (sym e) in
-    record { state = s; answer = ap (λ (x : Created). x .answer) (sym e); kept = record { from = subst (FromCalls desks) (sym s) (created d); unused = c .blank .ensures .1 } }
+    record { state = s; answer = ap (λ (x : Created). x .answer) (sym e); kept = record { from = subst (FromCalls desks) (sym s) (created d); ordered = c .blank .ensures .1; queued = c .blank .ensures .2 } }
 
 returns-2 : tie.Need-returns-2
 returns-2 c =
     let d = c .before .before .before .args .own in
     let e = denied d (sym (c .before .before .is-desk .ensures) ∙ c .before .if1 .left) in
     let s = c .blank2 .ensures .0 ∙ ap (λ (x : Created). x .state) (sym e) in
-    record { state = s; answer = ap (λ (x : Created). x .answer) (sym e); kept = record { from = subst (FromCalls desks) (sym s) (created d); unused = c .blank2 .ensures .1 } }
+    record { state = s; answer = ap (λ (x : Created). x .answer) (sym e); kept = record { from = subst (FromCalls desks) (sym s) (created d); ordered = c .blank2 .ensures .1; queued = c .blank2 .ensures .2 } }
 
 pub new-spec : {M : Type 1} → statement M
 new-spec = tie.close (tie.spec (λ c κs. search needs) (λ c κs. search needs) (λ c κs. search needs) returns returns-2)

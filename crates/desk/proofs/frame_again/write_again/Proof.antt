@@ -1,31 +1,63 @@
 -- `write_again` meets its contract: both ways out are the definition's by `FrameAgain`, from what find, mark_at and write_mark ensure.
+use mathlib.Core.List.{List}
+use mathlib.Core.Path.{_≡_}
+use Prim.Native.Nat.{ℕ}
 use native.Mathlib.Omega.{arith}
 use borrow.Author.Needs.{needs}
-use Rattle.rows.specs.View.{boxAt}
-use Rattle.desk.specs.Steps.{deskOf}
+use Rattle.causality.specs.Marks.{find, places}
+use Rattle.causality.specs.Meaning.{idOf}
+use Rattle.causality.specs.State.{markId}
+use Rattle.rows.specs.View.{boxAt, placeAt, width}
+use Rattle.rows.proofs.Slots.{has-slot}
+use Rattle.executed.proofs.Chain.{found-inside, found-place}
+use Rattle.waiting.specs.declared.Waiting.{Waiting}
+use Rattle.desk.specs.declared.Desk.{Desk}
+use Rattle.desk.specs.Lent.{againLent, deskOf}
+use Rattle.desk.specs.StateOf.{Kept, stateOf}
 use Rattle.desk.proofs.FrameAgain.{not-executed, written-again}
+use Rattle.desk.proofs.Invariant.{kept-count, kept-lent}
 use Rattle.desk.proofs.frame_again.write_again.Statement.{statement}
 use Rattle.desk.proofs.frame_again.write_again.Tie as tie
 
+-- A desk that lends the arrays.
+abbrev desk : tie.Start → ℕ → ℕ × List ℕ → Waiting → Desk
+desk s own rest q = let a = s .args in deskOf own (againLent (a .desks) (a .numbers) (a .boxes) (a .stamps) (a .tally) (a .last) (a .before) rest) q
+
+find-requires : tie.Need-find-requires
+find-requires c κs = let p = c .before .pre in record { names = _; chain = kept-lent _ (p .kept) .chain }
+
+module _ (f : tie.After-find) (own : ℕ) (rest : ℕ × List ℕ) (q : Waiting) (k : Kept (desk (f .before .before) own rest q)) where
+  a : tie.Start
+  a = f .before .before
+
+  placed : let d = desk (f .before .before) own rest q in
+      placeAt width (d .count) (f .find .result) (d .desks) (d .numbers) (boxAt (d .boxes)) (d .stamps) ≡ find markId (idOf (f .before .before .args .a)) (stateOf d .executed)
+  placed = let d = desk (f .before .before) own rest q in
+      found-place (d .count) (d .desks) (d .numbers) (d .tally) (d .last) (d .before) (kept-lent d k) (idOf (f .before .before .args .a)) (f .find .result) (f .find .ensures) (boxAt (d .boxes)) (d .stamps)
+
 returns : tie.Need-returns
-returns c own q =
+returns c own rest q k =
     let f = c .before in
-    let a = f .before .before .before .args in
-    not-executed (deskOf own (a .count) (a .desks .now) (a .numbers .now) (a .boxes .now) (a .stamps .now) q) (a .a) (a .out .now) (f .find .result)
-    (f .find .ensures .0 (boxAt (a .boxes .now)) (a .stamps .now)) (c .if1 .taken)
+    let s = f .before .before in
+    let d = desk s own rest q in
+    let n = kept-count d k in
+    let l = c .if1 .taken in
+    not-executed d (s .args .a) (s .args .out .now) (f .find .result) (placed f own rest q k) (omega arith)
 
 mark-at-requires : tie.Need-mark-at-requires
-mark-at-requires c κs = let h = c .before .before .before .before .pre in let l = c .if1 .left in omega arith
+mark-at-requires c κs = has-slot places _ _ _ _ _ _ (c .before .before .before .before .before .before .before .pre .kept .ordered .slots) (c .before .before .before .before .if1 .left)
 
 returns-2 : tie.Need-returns-2
-returns-2 c own q =
+returns-2 c own rest q k =
     let w = c .before .before in
     let m = w .before .before in
-    let f = m .before .before in
-    let a = f .before .before .before .args in
-    written-again (deskOf own (a .count) (a .desks .now) (a .numbers .now) (a .boxes .now) (a .stamps .now) q) (a .a) (a .out .now) (f .find .result)
-    (f .find .ensures .0 (boxAt (a .boxes .now)) (a .stamps .now)) (m .before .if1 .left) (m .mark-at .result) (m .mark-at .ensures)
+    let e = m .before .before .before .before .before in
+    let f = e .before in
+    let s = f .before .before in
+    let d = desk s own rest q in
+    let l = found-inside (d .count) (d .desks) (d .numbers) (d .tally) (d .last) (d .before) (kept-lent d k) (idOf (s .args .a)) (f .find .result) (f .find .ensures) (e .if1 .left) in
+    written-again d (s .args .a) (s .args .out .now) (f .find .result) (placed f own rest q k) l (m .mark-at .result) (m .mark-at .ensures)
     (w .write-mark .result) (w .write-mark .last .1 .0) (w .write-mark .ensures .0) (w .write-mark .ensures .1)
 
 pub write-again-spec : {M : Type 1} → statement M
-write-again-spec = tie.close (tie.spec (λ c κs. search needs) returns mark-at-requires (λ c κs. search needs) (λ c. search needs) returns-2)
+write-again-spec = tie.close (tie.spec find-requires returns mark-at-requires (λ c κs. search needs) (λ c. search needs) returns-2)

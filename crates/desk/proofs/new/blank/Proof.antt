@@ -1,25 +1,33 @@
--- `blank` meets its contract: no place is in use, and each slot of each array is the one that fills it.
-use Prim.Native.Nat.{_*_}
-use mathlib.Core.List.{[], map}
+-- `blank` meets its contract: no place is in use, and each slot of each array is zero.
+use Prim.Native.Nat.{ℕ}
+use lib.ListN.{length-replicate}
+use mathlib.Core.List.{[]}
 use borrow.Author.Needs.{needs}
 use Rattle.causality.specs.Marks.{places}
+use Rattle.causality.specs.State.{heads}
 use Rattle.rows.specs.View.{view, width}
-use Rattle.waiting.specs.Queue.{heldMark}
-use Rattle.queries.proofs.Zeros.{zero-all}
+use Rattle.rows.proofs.Slots.{slots-none, zero-all, zeros}
 use Rattle.desk.proofs.new.blank.Statement.{statement}
 use Rattle.desk.proofs.new.blank.Tie as tie
 
 returns : tie.Need-returns
-unfolding view
+unfolding view heads
 returns c = (
-  λ i. record { own = c .before .args .own; executed = []; waiting = map heldMark (c .empty .ensures .1 i) },
+  λ i. record { own = c .before .args .own; executed = []; waiting = c .empty .ensures .1 i },
   record {
-    desks = zero-all places 0;
-    numbers = zero-all places 0;
-    boxes = zero-all (places * 4) 0;
-    stamps = zero-all (places * width) 0;
-    queue = c .empty .ensures .0;
+    slots = slots-none places;
+    rows = record {
+      long-tally = length-replicate {A = ℕ} width 0;
+      long-heads = length-replicate {A = ℕ} width 0;
+      long-last = length-replicate {A = ℕ} width 0;
+      tally = λ j l. zeros width j;
+      heads = λ j l. zeros width j;
+      last = λ j l. zeros width j;
+      before = tt;
+      unused = zero-all places 0;
+    };
   },
+  c .empty .ensures .0,
 )
 
 pub blank-spec : {M : Type 1} → statement M

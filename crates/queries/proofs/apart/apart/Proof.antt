@@ -10,19 +10,11 @@ use Rattle.causality.specs.Marks.{places}
 use Rattle.causality.proofs.Reach.{Sound}
 use Rattle.rows.specs.View.{view, width}
 use Rattle.rows.proofs.RowSteps.{named-at, named-less}
+use Rattle.rows.proofs.Slots.{zero-all}
+use Rattle.queries.specs.Steps.{PastTold}
 use Rattle.queries.proofs.ApartTurns.{ApartTo, apart-all, apart-none, turn-apart, turn-follows, turn-past}
-use Rattle.queries.proofs.PastRow.{PastTold}
-use Rattle.queries.proofs.Zeros.{zero-all}
 use Rattle.queries.proofs.apart.apart.Statement.{statement}
 use Rattle.queries.proofs.apart.apart.Tie as tie
-use Rattle.queries.proofs.apart.apart.Reads as reads
-use Rattle.queries.proofs.apart.apart.Lts as lts
-use Rattle.queries.proofs.apart.follows.Reads as follows-reads
-use Rattle.queries.proofs.apart.note.Reads as note-reads
-use Rattle.queries.proofs.past.past.Reads as past-reads
-
-abbrev known : lts.Claims
-known = (past-reads.Asked, past-reads.Learnt, follows-reads.Asked, follows-reads.Learnt, note-reads.Asked, note-reads.Learnt)
 
 abbrev Inv-loop : tie.InvT-loop
 Inv-loop desks numbers stamps count p past first₀ list₀ q₀ first list q = ApartTo width desks numbers stamps count (p .0) q first list
@@ -31,17 +23,17 @@ abbrev μ-loop : tie.MeasureT-loop
 μ-loop desks numbers stamps count p past first₀ list₀ q₀ first list q = count - q
 
 past-requires : tie.Need-past-requires Inv-loop μ-loop
-past-requires c κs = (search needs, named-less width _ _ _ (c .pre .2) (c .pre .1))
+past-requires c κs = let h = c .pre .1 in (search needs, named-less width _ _ _ (c .pre .2) (omega arith))
 
 loop-holds : tie.Need-loop-holds Inv-loop μ-loop
-loop-holds c = apart-none width _ _ _ _ _ width _ refl (record { desks = zero-all places 0; numbers = zero-all places 0 })
+loop-holds c = apart-none width _ _ _ _ _ _ refl (record { desks = zero-all places 0; numbers = zero-all places 0 })
 
 -- The mark at the place passed is of a desk.
-in-range : (c : lts.After-follows known reads.Pre reads.Post Inv-loop μ-loop) → let l = c .before .before .before .before in let d = getD (l .before .before .args .desks .now) (l .loop .q) 0 in (1 ≤ d) × (d ≤ width)
-in-range c = let i = c .before .before .before in named-at width _ _ _ (i .before .before .before .pre .2) (i .loop-test .taken)
+in-range : (c : tie.After-follows Inv-loop μ-loop) → let l = c .before .before .before .before .before in let d = getD (l .before .before .args .desks .now) (l .loop .q) 0 in (1 ≤ d) × (d ≤ width)
+in-range c = let i = c .before .before .before .before in named-at width _ _ _ (i .before .before .before .pre .2) (i .loop-test .taken)
 
 note-requires : tie.Need-note-requires Inv-loop μ-loop
-note-requires c κs = in-range (c .before)
+note-requires c κs = let d = in-range (c .before .before) in (d .0, d .1, c .before .before .before .before .before .before .before .loop .inv .long)
 
 cast-if2 : tie.Need-cast-if2 Inv-loop μ-loop
 cast-if2 c = omega (arith, in-range (c .before))
@@ -52,14 +44,8 @@ sub-if2 c = in-range (c .before) .0
 array-read-if2 : tie.Need-array-read-if2 Inv-loop μ-loop
 array-read-if2 c = omega (arith, in-range (c .before))
 
-element-write-list : tie.Need-element-write-list Inv-loop μ-loop
-element-write-list c = search needs
-
-element-write-list-2 : tie.Need-element-write-list-2 Inv-loop μ-loop
-element-write-list-2 c = search needs
-
 -- The row tells of each mark if it is of the past.
-told : (c : lts.After-past known reads.Pre reads.Post Inv-loop μ-loop) → let a = c .before .args in
+told : (c : tie.After-past Inv-loop μ-loop) → let a = c .before .args in
     (bs : ℕ → MarkBox) → Sound (view width (a .count) (a .desks .now) (a .numbers .now) bs (a .stamps .now))
     → PastTold width (a .desks .now) (a .numbers .now) bs (a .stamps .now) (a .count) (a .p .0) (c .past .result)
 told c bs sound = let s = c .before in c .past .ensures (s .args .count) bs (s .pre .1) (s .pre .2) sound
@@ -67,17 +53,17 @@ told c bs sound = let s = c .before in c .past .ensures (s .args .count) bs (s .
 loop-again : tie.Need-loop-again Inv-loop μ-loop
 loop-again c =
     let v = c .before in
-    let i = v .before .before .before in
+    let i = v .before .before .before .before in
     let l = i .before in
     let s = l .before .before in
     ⊎-elim
-    (λ w. rw (w .2, w .3) (turn-follows width _ _ _ _ _ _ _ _ (l .loop .inv) (s .pre .1) (i .loop-test .taken) (l .before .past .result) (told (l .before)) (sym (v .follows .ensures) ∙ w .0 .taken) _ (w .1 .ensures)))
+    (λ w. rw (w .3, w .4) (turn-follows width _ _ _ _ _ _ _ _ (l .loop .inv) (s .pre .1) (i .loop-test .taken) (l .before .past .result) (told (l .before)) (sym (v .follows .ensures) ∙ w .0 .taken) (w .2 .last .0) (w .2 .ensures .long) (w .2 .ensures .counts)))
     (⊎-elim
     (λ w. rw (w .2, w .3) (turn-apart width _ _ _ _ _ _ _ _ (l .loop .inv) (s .pre .1) (i .loop-test .taken) (l .before .past .result) (told (l .before)) (s .pre .0) (sym (v .follows .ensures) ∙ w .0 .left) (w .1 .taken)))
     (λ w. rw (w .2, w .3) (turn-past width _ _ _ _ _ _ _ _ (l .loop .inv) (s .pre .1) (i .loop-test .taken) (l .before .past .result) (told (l .before)) (sym (v .follows .ensures) ∙ w .0 .left) (w .1 .left)))) (c .if1 .came)
 
 returns : tie.Need-returns Inv-loop μ-loop
-returns c = let l = c .before in apart-all width _ _ _ _ _ _ _ _ (l .loop .inv) (c .loop-test .left)
+returns c = let l = c .before in let x = apart-all width _ _ _ _ _ _ _ _ (l .loop .inv) (c .loop-test .left) in record { few = x .0; spare = x .1; names = x .2 }
 
 pub apart-spec : {M : Type 1} → statement M
 apart-spec =
@@ -96,9 +82,9 @@ apart-spec =
     sub-if2
     (λ c. omega (arith, in-range (c .before)))
     array-read-if2
-    element-write-list
     (λ c. search needs)
-    element-write-list-2
+    (λ c. search needs)
+    (λ c. search needs)
     (λ c. search needs)
     (λ c. search needs)
     (λ c. search needs)

@@ -4,8 +4,6 @@ use mathlib.Core.List.{List}
 use mathlib.Core.Path.{_∙_, _≡_, ap, sym}
 use Prim.Native.Nat.{_-_, _≤_, ℕ}
 use lib.ListN.{getD}
-use mir.Syntax.{w16}
-use mir.Val.{Fits}
 use borrow.Author.Needs.{needs}
 use borrow.Author.Tests.{not-false, not-true}
 use native.Mathlib.Numerals.{add-one}
@@ -14,88 +12,70 @@ use Rattle.frame.specs.Answer.{gives}
 use Rattle.frame.specs.Mark.{isDesk}
 use Rattle.frame.specs.declared.MarkBox.{MarkBox}
 use Rattle.causality.specs.Calls.{firstApart}
-use Rattle.causality.specs.Marks.{tally}
 use Rattle.causality.specs.Meaning.{idOf}
-use Rattle.causality.specs.State.{Mark, ids}
+use Rattle.causality.specs.State.{Mark}
 use Rattle.causality.proofs.Apart.{above-no, above-yes, lowestAbove}
+use Rattle.causality.proofs.Fit.{desk-facts}
 use Rattle.causality.proofs.Reach.{Sound}
+use Rattle.executed.specs.Rows.{Lent}
+use Rattle.executed.proofs.Chain.{found-inside}
 use Rattle.rows.specs.View.{view, width}
-use Rattle.rows.proofs.ByRows.{row-at}
 use Rattle.rows.proofs.RowSteps.{named-less}
 use Rattle.queries.specs.Lent.{lent}
-use Rattle.queries.proofs.FirstApart.{desk-range, first-given, first-no-desk, first-not-executed}
+use Rattle.queries.proofs.FirstApart.{first-lowest, first-no-desk, first-none}
 use Rattle.queries.proofs.first_apart.first_apart.Statement.{statement}
 use Rattle.queries.proofs.first_apart.first_apart.Tie as tie
-use Rattle.queries.proofs.first_apart.first_apart.Reads as reads
-use Rattle.queries.proofs.first_apart.first_apart.Lts as lts
-use Rattle.frame.proofs.conditions.is_desk.Reads as is-desk-reads
-use Rattle.queries.proofs.past.past.Reads as past-reads
-use Rattle.rows.proofs.find.Reads as find-reads
-use Rattle.rows.proofs.tally.Reads as tally-reads
-
-abbrev known : lts.Claims
-known = (is-desk-reads.Asked, is-desk-reads.Learnt, find-reads.Asked, find-reads.Learnt, past-reads.Asked, past-reads.Learnt, tally-reads.Asked, tally-reads.Learnt)
 
 returns : tie.Need-returns
-returns c own bs waiting sound = sym (first-no-desk width _ _ _ (sym (c .before .is-desk .ensures) ∙ not-true _ (c .if1 .taken)))
+returns c count own bs waiting l sound = sym (first-no-desk width _ _ _ (sym (c .before .is-desk .ensures) ∙ not-true _ (c .if1 .taken)))
 
 -- The desk is one once the place is looked for.
-is-desk : (c : lts.After-find known reads.Pre reads.Post) → isDesk width (c .before .before .before .before .args .desk) ≡ true
-is-desk c = sym (c .before .before .before .is-desk .ensures) ∙ not-false _ (c .before .before .if1 .left)
+is-desk : (c : tie.Else1) → isDesk width (c .before .before .args .desk) ≡ true
+is-desk c = sym (c .before .is-desk .ensures) ∙ not-false _ (c .if1 .left)
 
-in-range : (c : lts.After-find known reads.Pre reads.Post) → let d = c .before .before .before .before .args .desk in (1 ≤ d) × (d ≤ width)
-in-range c = desk-range width _ (is-desk c)
+in-range : (c : tie.Else1) → let d = c .before .before .args .desk in (1 ≤ d) × (d ≤ width)
+in-range c = desk-facts width _ (is-desk c)
 
 returns-2 : tie.Need-returns-2
-returns-2 c own bs waiting sound =
-    let f = c .before in
-    let a = f .before .before .before .before .args in
-    sym (first-not-executed width _ _ bs (a .stamps .now) width own _ _ waiting (idOf (a .a)) (f .find .ensures .0 bs (a .stamps .now)) (a .desk) (is-desk f) (c .if2 .taken))
+returns-2 c count own bs waiting l sound = let f = c .before in sym (first-none _ _ _ _ _ _ _ l own bs waiting _ _ (f .find .ensures) _ (is-desk (f .before)) (c .if2 .taken))
 
 past-requires : tie.Need-past-requires
 past-requires c κs =
-    let s = c .before .before .before .before .before in
-    (search needs, named-less width _ _ _ (s .pre .1) (c .if2 .left))
+    let f = c .before in
+    let s = f .before .before .before in
+    let m = s .pre .marks in
+    let i = found-inside _ _ _ _ _ _ m _ _ (f .find .ensures) (c .if2 .left) in
+    (c .if2 .left, named-less width (s .pre .count) _ _ (m .named) (omega arith))
 
-tally-requires : tie.Need-tally-requires
-tally-requires c κs =
-    let e = c .before in
-    let s = e .before .before .before .before .before in
-    (search needs, named-less width _ _ _ (s .pre .1) (search needs))
+made-before-requires : tie.Need-made-before-requires
+made-before-requires c κs =
+    let e = c .before .before .before in
+    let r = in-range e in
+    (search needs, r .0, r .1)
 
 sub-i : tie.Need-sub-i
-sub-i c = in-range (c .before .before .before) .0
+sub-i c = in-range (c .before .before .before .before) .0
 
 array-read-if3 : tie.Need-array-read-if3
-array-read-if3 c = omega (arith, in-range (c .before .before .before))
+array-read-if3 c = omega (arith, in-range (c .before .before .before .before))
 
-add-t30 : tie.Need-add-t30
-add-t30 c =
-    let h : Fits w16 (getD (c .before .tally .result) (c .before .before .before .before .before .before .before .before .args .desk - 1) 0) = search needs in
-    let l = c .if3 .taken in
-    omega arith
-
--- What is given once the past and the tally are known.
-given : (c : lts.After-tally known reads.Pre reads.Post) → let f = c .before .before .before in
-    let a = f .before .before .before .before .args in
-    (own : ℕ) (bs : ℕ → MarkBox) (waiting : List Mark) → Sound (view width (a .count) (a .desks .now) (a .numbers .now) bs (a .stamps .now))
-    → firstApart width (lent (a .count) (a .desks .now) (a .numbers .now) (a .stamps .now) own bs waiting) (idOf (a .a)) (a .desk)
-    ≡ gives (lowestAbove (getD (c .before .past .result) (a .desk - 1) 0) (getD (c .tally .result) (a .desk - 1) 0))
-given c own bs waiting sound =
-    let e = c .before .before in
+-- What is given once the past and the count of the marks before are known.
+given : (c : tie.After-made-before) → let a = c .before .before .before .before .before .before .args in
+    (count own : ℕ) (bs : ℕ → MarkBox) (waiting : List Mark) → Lent count (a .desks .now) (a .numbers .now) (a .tally .now) (a .last .now) (a .before .now)
+    → Sound (view width count (a .desks .now) (a .numbers .now) bs (a .stamps .now))
+    → firstApart width (lent count (a .desks .now) (a .numbers .now) (a .stamps .now) own bs waiting) (idOf (a .a)) (a .desk)
+    ≡ gives (lowestAbove (getD (c .before .past .result) (a .desk - 1) 0) (c .made-before .result))
+given c count own bs waiting l sound =
+    let p = c .before in
+    let e = p .before in
     let f = e .before in
-    let s = f .before .before .before .before in
-    let a = s .args in
-    let w = in-range f in
-    first-given width _ _ bs (a .stamps .now) width own _ _ waiting (idOf (a .a)) (f .find .ensures .0 bs (a .stamps .now)) (a .desk) (is-desk f) (e .if2 .left) sound
-    (c .before .past .result) (c .before .past .ensures (a .count) bs (e .if2 .left) (s .pre .1) sound) _
-    (row-at width (c .tally .result) (λ d. tally d (ids (view width (f .find .result) (a .desks .now) (a .numbers .now) bs (a .stamps .now)))) (c .tally .ensures (a .numbers .now) (a .stamps .now) bs) (a .desk) (w .0) (w .1))
+    first-lowest _ _ _ _ _ _ _ l own bs waiting _ _ (f .find .ensures) _ (is-desk (f .before)) (e .if2 .left) sound (p .past .result) (p .past .ensures) (c .made-before .result) (c .made-before .ensures)
 
 returns-3 : tie.Need-returns-3
-returns-3 c own bs waiting sound = sym (given (c .before) own bs waiting sound ∙ ap gives (above-yes _ _ (c .if3 .taken) ∙ sym (add-one _)))
+returns-3 c count own bs waiting l sound = sym (given (c .before) count own bs waiting l sound ∙ ap gives (above-yes _ _ (c .if3 .taken) ∙ sym (add-one _)))
 
 returns-4 : tie.Need-returns-4
-returns-4 c own bs waiting sound = sym (given (c .before) own bs waiting sound ∙ ap gives (above-no _ _ (c .if3 .left)))
+returns-4 c count own bs waiting l sound = sym (given (c .before) count own bs waiting l sound ∙ ap gives (above-no _ _ (c .if3 .left)))
 
 pub first-apart-spec : {M : Type 1} → statement M
 first-apart-spec =
@@ -106,14 +86,12 @@ first-apart-spec =
     (λ c κs. search needs)
     returns-2
     past-requires
-    tally-requires
+    made-before-requires
     sub-i
     (λ c. search needs)
     array-read-if3
     (λ c. search needs)
-    array-read-if3
-    (λ c. search needs)
     (λ c. array-read-if3 (c .before))
-    add-t30
+    (λ c. search needs)
     returns-3
     returns-4)

@@ -1,0 +1,54 @@
+// Receive works on a desk's lent arrays in place. wdesks and so on are the arrays of the waiting marks.
+ghost use Rattle.executed.specs.Arrays.{here, found, left};
+ghost use Rattle.waiting.specs.Queue.{here as heldHere, found as heldFound, left as heldLeft};
+ghost use Rattle.arrivals.specs.Kept.{KeptIn};
+ghost use Rattle.abi.specs.Exports.{ReceiveExport};
+use numbers::ReceiveAnswer;
+use rows::BOX;
+use rows::PLACES;
+use rows::WIDTH;
+use waiting::WAITING;
+
+#[no_mangle]
+pub extern "C" fn kaungimewe_receive_lent(
+    own: u8,
+    count: &mut usize,
+    desks: &mut [u8; PLACES],
+    numbers: &mut [u16; PLACES],
+    boxes: &mut [u32; PLACES * BOX],
+    stamps: &mut [u16; PLACES * WIDTH],
+    tally: &mut [u16; WIDTH],
+    heads: &mut [u16; WIDTH],
+    last: &mut [u16; WIDTH],
+    before: &mut [u16; PLACES],
+    waiting: &mut usize,
+    wdesks: &mut [u8; WAITING],
+    wnumbers: &mut [u16; WAITING],
+    wboxes: &mut [u32; WAITING * BOX],
+    wstamps: &mut [u16; WAITING * WIDTH],
+    frame: &[u8],
+) -> ReceiveAnswer
+    requires { ⌜ KeptIn own (here count desks numbers boxes stamps tally heads last before) (heldHere waiting wdesks wnumbers wboxes wstamps) ⌝ }
+    ensures { λ r. ⌜ ReceiveExport own
+        (found count desks numbers boxes stamps tally heads last before) (heldFound waiting wdesks wnumbers wboxes wstamps)
+        (left count desks numbers boxes stamps tally heads last before) (heldLeft waiting wdesks wnumbers wboxes wstamps) (now (frame .entry)) r ⌝ }
+{
+    numbers::received(desk::receive::receiving(
+        own,
+        count,
+        desks,
+        numbers,
+        boxes,
+        stamps,
+        tally,
+        heads,
+        last,
+        before,
+        waiting,
+        wdesks,
+        wnumbers,
+        wboxes,
+        wstamps,
+        frame,
+    ))
+}

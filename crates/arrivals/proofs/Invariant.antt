@@ -1,0 +1,64 @@
+-- What holds of the arrays and counts of a desk that came from New and the calls. Assumes nothing.
+use Prim.Native.Nat.{_+_, _≤_, ℕ}
+use lib.ListN.{length}
+use mathlib.Core.Path.{_≡_}
+use native.Mathlib.Omega.{arith}
+use Rattle.frame.specs.Mark.{desks}
+use Rattle.causality.specs.Marks.{All, places, waitingPlaces}
+use Rattle.causality.proofs.Fit.{Fit}
+use Rattle.causality.proofs.Kept.{Kept as KeptState, kept}
+use Rattle.causality.proofs.Reach.{ReachState, Sound}
+use Rattle.rows.specs.View.{Named, boxAt, width}
+use Rattle.executed.specs.Rows.{Lent}
+use Rattle.executed.proofs.Chain.{lent-of}
+use Rattle.executed.specs.Arrays.{Arrays}
+use Rattle.waiting.specs.declared.Waiting.{Waiting}
+use Rattle.arrivals.specs.Kept.{KeptIn, stateIn}
+use Rattle.rows.proofs.Arrays.{view-at, view-length}
+
+-- As many marks as the counts say.
+module _ (own : ℕ) (a : Arrays) (q : Waiting) where
+  pub executed-length : length ((stateIn own a q) .executed) ≡ a .count
+  executed-length = view-length width (a .count) (a .desks) (a .numbers) (boxAt (a .boxes)) (a .stamps)
+
+  pub waiting-length : length ((stateIn own a q) .waiting) ≡ q .count
+  waiting-length = view-length width (q .count) (q .desks) (q .numbers) (boxAt (q .boxes)) (q .stamps)
+
+  -- Marks that a frame can carry are of desks 1 to the width.
+  pub fit-named : All (Fit desks) ((stateIn own a q) .executed) → Named width (a .count) (a .desks)
+  unfolding Named
+  fit-named e p l = let f = view-at width (Fit desks) (a .count) (a .desks) (a .numbers) (boxAt (a .boxes)) (a .stamps) e p l in (f .range .low, f .range .high)
+
+  pub kept-state : KeptIn own a q → KeptState desks (omega arith) (stateIn own a q)
+  kept-state k = kept desks (omega arith) (k .from)
+
+  pub kept-reach : KeptIn own a q → ReachState (stateIn own a q)
+  kept-reach k = kept-state k .reach
+
+  pub kept-sound : KeptIn own a q → Sound ((stateIn own a q) .executed)
+  kept-sound k = kept-state k .reach .sound
+
+  pub kept-fit : KeptIn own a q → All (Fit desks) ((stateIn own a q) .executed)
+  kept-fit k = kept-state k .executed
+
+  pub kept-waiting-fit : KeptIn own a q → All (Fit desks) ((stateIn own a q) .waiting)
+  kept-waiting-fit k = kept-state k .waiting
+
+  pub kept-named : KeptIn own a q → Named width (a .count) (a .desks)
+  kept-named k = fit-named (kept-fit k)
+
+  pub kept-total : KeptIn own a q → a .count + q .count ≤ places
+  kept-total k = omega (arith, kept-state k .still .room .total, executed-length, waiting-length)
+
+  pub kept-count : KeptIn own a q → a .count ≤ places
+  kept-count k = omega (arith, kept-total k)
+
+  pub kept-few : KeptIn own a q → q .count ≤ waitingPlaces
+  kept-few k = k .queued .few
+
+  pub kept-own : KeptIn own a q → (1 ≤ own) × (own ≤ width)
+  kept-own k = (kept-state k .low, kept-state k .high)
+
+  -- What the queries rest on.
+  pub kept-lent : KeptIn own a q → Lent (a .count) (a .desks) (a .numbers) (a .tally) (a .last) (a .before)
+  kept-lent k = lent-of (a .count) (a .desks) (a .numbers) (boxAt (a .boxes)) (a .stamps) (a .tally) (a .heads) (a .last) (a .before) (k .ordered .rows) (kept-sound k) (kept-named k) (kept-count k)

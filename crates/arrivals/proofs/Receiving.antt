@@ -1,0 +1,93 @@
+-- Receive by what is found of a mark: what each judgement does, and what led to it. Assumes nothing.
+use Prim.Native.Nat.{ℕ}
+use lib.Dec.{eqb}
+use lib.ListN.{length}
+use mathlib.Core.Bool.{Bool, _||_, false, true}
+use mathlib.Core.List.{List, _++_, _∷_}
+use mathlib.Core.Option.{Option, none, some}
+use mathlib.Core.Path.{_≡_, refl, subst}
+use Rattle.frame.specs.Answer.{gives}
+use Rattle.frame.specs.Mark.{desks}
+use Rattle.causality.specs.Answers.{Known, Waiting}
+use Rattle.causality.specs.Calls.{Received, arrive, executing, frameOfMark, full, receiveMark, refuse, sameBytes, unmade}
+use Rattle.causality.specs.Marks.{any, find, waitingPlaces}
+use Rattle.causality.specs.State.{Mark, State, falseStamp, markId, ready}
+use Rattle.causality.proofs.Cases.{Arrives}
+use Rattle.arrivals.specs.Steps.{Judgement, admission, holds, judgement, knownIf, knows, meeting, refuses, runs}
+
+-- WHAT A JUDGEMENT DOES
+
+abbrev pub act : Judgement → State → Mark → Received
+act (refuses c) st m = refuse st c
+act knows st m = record { state = st; answer = gives Known }
+act holds st m = record { state = record { own = st .own; executed = st .executed; waiting = m ∷ st .waiting }; answer = gives Waiting }
+act runs st m = executing st m
+
+admission-act : (st : State) (m : Mark) → arrive st m ≡ act (admission st m) st m
+unfolding arrive admission
+admission-act st m = go (full st) (ready (st .executed) m) (eqb (length (st .waiting)) waitingPlaces) (falseStamp (st .executed) m) refl refl refl refl
+  where
+    go : (a b c g : Bool) → full st ≡ a → ready (st .executed) m ≡ b → eqb (length (st .waiting)) waitingPlaces ≡ c → falseStamp (st .executed) m ≡ g → arrive st m ≡ act (admission st m) st m
+    go true b c g ea eb ec eg = rw (ea, arrive) (rw (ea, admission) refl)
+    go false false true g ea eb ec eg = rw (ea, arrive) (rw eb (rw ec (rw (ea, admission) (rw eb (rw ec refl)))))
+    go false false false g ea eb ec eg = rw (ea, arrive) (rw eb (rw ec (rw (ea, admission) (rw eb (rw ec refl)))))
+    go false true c true ea eb ec eg = rw (ea, arrive) (rw eb (rw eg (rw (ea, admission) (rw eb (rw eg refl)))))
+    go false true c false ea eb ec eg = rw (ea, arrive) (rw eb (rw eg (rw (ea, admission) (rw eb (rw eg refl)))))
+
+pub receive-act : (st : State) (m : Mark) (s : List ℕ) → receiveMark desks st m s ≡ act (judgement st m s) st m
+unfolding receiveMark judgement meeting
+receive-act st m s = go (unmade st (m .id) || any (unmade st) (m .stamp)) refl (find markId (m .id) (st .executed ++ st .waiting)) refl
+  where
+    knows-act : (h : Mark) (b : Bool) → sameBytes (frameOfMark desks h) s ≡ b
+        → elim (sameBytes (frameOfMark desks h) s) [ true ↦ record { state = st; answer = gives Known } | false ↦ refuse st 8 ] ≡ act (knownIf (sameBytes (frameOfMark desks h) s)) st m
+    knows-act h true e = rw e refl
+    knows-act h false e = rw e refl
+
+    go : (b : Bool) → (unmade st (m .id) || any (unmade st) (m .stamp)) ≡ b → (o : Option Mark) → find markId (m .id) (st .executed ++ st .waiting) ≡ o
+        → receiveMark desks st m s ≡ act (judgement st m s) st m
+    go true e o q = rw (e, receiveMark) (rw (e, judgement) refl)
+    go false e none q = rw (e, receiveMark) (rw (e, judgement) (rw (q, meeting) (admission-act st m)))
+    go false e (some h) q = rw (e, receiveMark) (rw (e, judgement) (rw (q, meeting) (knows-act h (sameBytes (frameOfMark desks h) s) refl)))
+
+-- WHAT LED TO A JUDGEMENT
+
+data JudgeCase (st : State) (m : Mark) : Judgement → Type 0 where
+  to-refuse : (c : ℕ) → JudgeCase st m (refuses c)
+  to-know : JudgeCase st m knows
+  to-hold : Arrives st m → ready (st .executed) m ≡ false → eqb (length (st .waiting)) waitingPlaces ≡ false → JudgeCase st m holds
+  to-run : Arrives st m → ready (st .executed) m ≡ true → falseStamp (st .executed) m ≡ false → JudgeCase st m runs
+
+judge-case : (st : State) (m : Mark) (s : List ℕ) → JudgeCase st m (judgement st m s)
+unfolding judgement meeting admission
+judge-case st m s = go (unmade st (m .id) || any (unmade st) (m .stamp)) refl (find markId (m .id) (st .executed ++ st .waiting)) refl
+  where
+    known-case : (b : Bool) → JudgeCase st m (knownIf b)
+    known-case true = to-know
+    known-case false = to-refuse 8
+
+    admitted : (full st ≡ false → Arrives st m) → JudgeCase st m (admission st m)
+    admitted here = try (full st) (ready (st .executed) m) (eqb (length (st .waiting)) waitingPlaces) (falseStamp (st .executed) m) refl refl refl refl
+      where
+        try : (a b c g : Bool) → full st ≡ a → ready (st .executed) m ≡ b → eqb (length (st .waiting)) waitingPlaces ≡ c → falseStamp (st .executed) m ≡ g → JudgeCase st m (admission st m)
+        try true b c g ea eb ec eg = rw (ea, admission) (to-refuse 9)
+        try false false true g ea eb ec eg = rw (ea, admission) (rw eb (rw ec (to-refuse 10)))
+        try false false false g ea eb ec eg = rw (ea, admission) (rw eb (rw ec (to-hold (here ea) eb ec)))
+        try false true c true ea eb ec eg = rw (ea, admission) (rw eb (rw eg (to-refuse 11)))
+        try false true c false ea eb ec eg = rw (ea, admission) (rw eb (rw eg (to-run (here ea) eb eg)))
+
+    go : (u : Bool) → (unmade st (m .id) || any (unmade st) (m .stamp)) ≡ u → (o : Option Mark) → find markId (m .id) (st .executed ++ st .waiting) ≡ o → JudgeCase st m (judgement st m s)
+    go true e o q = rw (e, judgement) (to-refuse 7)
+    go false e none q = rw (e, judgement) (rw (q, meeting) (admitted (λ r. record { made = e; absent = q; room = r })))
+    go false e (some h) q = rw (e, judgement) (rw (q, meeting) (known-case (sameBytes (frameOfMark desks h) s)))
+
+pub judged-holds : (st : State) (m : Mark) (s : List ℕ) → judgement st m s ≡ holds → Arrives st m × (eqb (length (st .waiting)) waitingPlaces ≡ false)
+judged-holds st m s e = go (subst (JudgeCase st m) e (judge-case st m s))
+  where
+    go : JudgeCase st m holds → Arrives st m × (eqb (length (st .waiting)) waitingPlaces ≡ false)
+    go (to-hold a b c) = (a, c)
+
+pub judged-runs : (st : State) (m : Mark) (s : List ℕ) → judgement st m s ≡ runs → Arrives st m × (ready (st .executed) m ≡ true) × (falseStamp (st .executed) m ≡ false)
+judged-runs st m s e = go (subst (JudgeCase st m) e (judge-case st m s))
+  where
+    go : JudgeCase st m runs → Arrives st m × (ready (st .executed) m ≡ true) × (falseStamp (st .executed) m ≡ false)
+    go (to-run a b c) = (a, b, c)

@@ -1,0 +1,102 @@
+-- The release, turn by turn: what one turn does to the executed and the waiting marks. Assumes nothing.
+use Prim.Native.Nat.{_+_, _<_, _≤_, suc, zero, ℕ}
+use borrow.Author.Tests.{eqb-false}
+use lib.Dec.{T, T-not, not-T}
+use lib.ListN.{length}
+use mathlib.Core.Bool.{false, not, true}
+use mathlib.Core.List.{List, _∷_}
+use mathlib.Core.Logic.{inl, inr}
+use mathlib.Core.Option.{none, some}
+use mathlib.Core.Path.{_≡_, refl, subst}
+use native.Mathlib.Omega.{arith}
+use Rattle.frame.specs.Mark.{desks}
+use Rattle.causality.specs.Calls.{FromCalls, full, release}
+use Rattle.causality.specs.Marks.{All, has, lowest, places, same, without}
+use Rattle.causality.specs.State.{Mark, State, falseStamp, ids, markId, ready}
+use Rattle.causality.proofs.Cases.{Arrives}
+use Rattle.causality.proofs.Fit.{Fit}
+use Rattle.causality.proofs.Kept.{kept}
+use Rattle.causality.proofs.Lists.{InList, Picked, all-map, lowest-in, lowest-picked, without-all, without-lt}
+use Rattle.causality.proofs.Logic.{or-cases, same-refl, same→eq}
+use Rattle.causality.proofs.Reach.{Sound, execute-reach, follows-of}
+use Rattle.waiting.proofs.DistinctLaws.{distinct-without, waiting-distinct}
+use Rattle.arrivals.specs.Steps.{Between}
+
+pub turn-executed : (l ws : List Mark) (turns k f : ℕ) (w : Mark) → lowest markId (ready l) ws ≡ some w → falseStamp l w ≡ false
+    → release (suc turns) l ws k f ≡ release turns (w ∷ l) (without markId (w .id) ws) (suc k) f
+turn-executed l ws turns k f w e e′ = rw (e, release) (rw e′)
+
+pub turn-dropped : (l ws : List Mark) (turns k f : ℕ) (w : Mark) → lowest markId (ready l) ws ≡ some w → falseStamp l w ≡ true
+    → release (suc turns) l ws k f ≡ release turns l (without markId (w .id) ws) k (suc f)
+turn-dropped l ws turns k f w e e′ = rw (e, release) (rw e′)
+
+pub rests : (l ws : List Mark) (turns k f : ℕ) → lowest markId (ready l) ws ≡ none → release turns l ws k f ≡ record { executed = l; waiting = ws; k = k; f = f }
+rests l ws zero k f e = refl
+rests l ws (suc turns) k f e = rw (e, release)
+
+-- The ready waiting mark of lowest desk is w.
+module _ (l ws : List Mark) (w : Mark) (m : Between l ws) (e : lowest markId (ready l) ws ≡ some w) where
+  pub next-fit : Fit desks w
+  next-fit = (subst (Picked (Fit desks) (ready l)) e (lowest-picked (Fit desks) (ready l) ws (m .waiting))) .0
+
+  pub next-ready : T (ready l w)
+  next-ready = (subst (Picked (Fit desks) (ready l)) e (lowest-picked (Fit desks) (ready l) ws (m .waiting))) .1
+
+  fresh : T (not (has (w .id) (ids l)))
+  fresh = (subst (Picked (λ v. T (not (has (v .id) (ids l)))) (ready l)) e (lowest-picked (λ v. T (not (has (v .id) (ids l)))) (ready l) ws (m .fresh))) .0
+
+  shorter : length (without markId (w .id) ws) < length ws
+  shorter = without-lt markId (w .id) ws (subst (InList markId ws) e (lowest-in markId (ready l) ws))
+
+  pub between-dropped : Between l (without markId (w .id) ws)
+  between-dropped =
+      let room = m .room in
+      let s = shorter in
+      record {
+        sound = m .sound;
+        fresh = all-map (λ v x. x .0) (without markId (w .id) ws) (without-all (λ v. T (not (has (v .id) (ids l)))) (w .id) ws (m .fresh));
+        distinct = distinct-without (w .id) ws (m .distinct);
+        room = omega arith;
+        executed = m .executed;
+        waiting = all-map (λ v x. x .0) (without markId (w .id) ws) (without-all (Fit desks) (w .id) ws (m .waiting));
+      }
+
+  pub next-sound : falseStamp l w ≡ false → Sound (w ∷ l)
+  next-sound t = (follows-of l w (m .sound) (next-fit .range .first) fresh next-ready t, m .sound)
+
+  pub between-executed : falseStamp l w ≡ false → Between (w ∷ l) (without markId (w .id) ws)
+  between-executed t =
+      let room = m .room in
+      let s = shorter in
+      record {
+        sound = next-sound t;
+        fresh = all-map other (without markId (w .id) ws) (without-all (λ v. T (not (has (v .id) (ids l)))) (w .id) ws (m .fresh));
+        distinct = distinct-without (w .id) ws (m .distinct);
+        room = omega arith;
+        executed = (next-fit, m .executed);
+        waiting = between-dropped .waiting;
+      }
+    where
+      other : (v : Mark) → T (not (has (v .id) (ids l))) × T (not (same (w .id) (v .id))) → T (not (has (v .id) (w .id ∷ ids l)))
+      other v x = not-T (has (v .id) (w .id ∷ ids l)) (λ u. elim (or-cases (same (v .id) (w .id)) (has (v .id) (ids l)) u) [
+        | inl q ↦ T-not (same (w .id) (v .id)) (x .1) (rw (same→eq (v .id) (w .id) q) (same-refl (w .id)))
+        | inr q ↦ T-not (has (v .id) (ids l)) (x .0) q
+      ])
+
+-- A kept desk after the execution of a mark that arrived.
+pub between-arrived : (st : State) (m : Mark) → FromCalls desks st → Fit desks m → Arrives st m → ready (st .executed) m ≡ true → falseStamp (st .executed) m ≡ false
+    → Between (m ∷ st .executed) (st .waiting)
+unfolding full
+between-arrived st m c f a b g =
+    let k = kept desks (omega arith) c in
+    let room = k .still .room .total in
+    let n : ¬ (length (st .executed) + length (st .waiting) ≡ places) = eqb-false _ _ (a .room) in
+    let r = execute-reach st m (f .range .first) (k .reach) a b g in
+    record {
+      sound = r .sound;
+      fresh = all-map (λ v x. x .fresh) (st .waiting) (r .wait);
+      distinct = waiting-distinct desks c;
+      room = omega arith;
+      executed = (f, k .executed);
+      waiting = k .waiting;
+    }

@@ -1,0 +1,87 @@
+-- `arrive` meets its contract: what the verdict says comes of it (Receipt).
+use mathlib.Core.Path.{_≡_, _∙_, ap, refl, sym}
+use borrow.Author.Needs.{needs}
+use Rattle.frame.specs.Mark.{desks}
+use Rattle.causality.specs.Calls.{frameOfMark}
+use Rattle.rows.specs.View.{heldMark}
+use Rattle.executed.specs.Arrays.{Arrays, here}
+use Rattle.waiting.specs.Queue.{here as heldHere}
+use Rattle.waiting.specs.declared.Waiting.{Waiting}
+use Rattle.arrivals.specs.Kept.{stateIn}
+use Rattle.arrivals.specs.Steps.{judgement, verdictOf}
+use Rattle.arrivals.proofs.Arriving.{holds-room, promise-holds, promise-known, promise-refused, promise-runs, runs-midway, runs-takes}
+use Rattle.arrivals.proofs.arrive.arrive.Statement.{statement}
+use Rattle.arrivals.proofs.arrive.arrive.Tie as tie
+
+-- What is lent, as it was found.
+abbrev marks : tie.Start → Arrays
+marks s = let a = s .args in here (a .count) (a .desks) (a .numbers) (a .boxes) (a .stamps) (a .tally) (a .heads) (a .last) (a .before)
+
+abbrev queue : tie.Start → Waiting
+queue s = let a = s .args in heldHere (a .waiting) (a .wdesks) (a .wnumbers) (a .wboxes) (a .wstamps)
+
+judge-requires : tie.Need-judge-requires
+judge-requires c κs = let s = c .before .before .before .before .before .before .before .before .before .before .before .before .before in (record { heads = s .args .heads .now; kept = s .pre .0 }, s .pre .1)
+
+-- The verdict is the judgement.
+judged : (g : tie.After-judge) → let s = g .before .before .before .before .before .before .before .before .before .before .before .before .before .before in verdictOf (g .judge .result) ≡ judgement (stateIn (s .args .own) (marks s) (queue s)) (heldMark (s .args .h)) (frameOfMark desks (heldMark (s .args .h)))
+judged g = g .judge .ensures
+
+push-requires : tie.Need-push-requires
+push-requires c κs =
+    let g = c .before .before .before .before .before .before .before in
+    let s = g .before .before .before .before .before .before .before .before .before .before .before .before .before .before in
+    (s .pre .0 .queued, holds-room (s .args .own) (marks s) (queue s) (s .pre .0) (s .args .h) (sym (ap verdictOf (c .before .before .before .before .before .enum-told2 .given .1)) ∙ judged g))
+
+execute-requires : tie.Need-execute-requires
+execute-requires c κs =
+    let g = c .before .before .before .before .before .before .before .before .before .before .before in
+    let s = g .before .before .before .before .before .before .before .before .before .before .before .before .before .before in
+    runs-takes (s .args .own) (marks s) (queue s) (s .pre .0) (s .args .h) (s .pre .1) (sym (ap verdictOf (c .before .before .before .before .before .before .before .before .before .enum-told3 .given .1)) ∙ judged g)
+
+release-requires : tie.Need-release-requires
+release-requires c κs =
+    let g = c .before .before .before .before .before .before .before .before .before .before .before .before .before .before .before .before .before .before .before .before .before .before .before .before .before .before in
+    let s = g .before .before .before .before .before .before .before .before .before .before .before .before .before .before in
+    runs-midway (s .args .own) (marks s) (queue s) (s .pre .0) (s .args .h) (s .pre .1) (sym (ap verdictOf (c .before .before .before .before .before .before .before .before .before .before .before .before .before .before .before .before .before .before .before .before .before .before .before .before .enum-told3 .given .1)) ∙ judged g) _ (c .before .before .before .before .before .before .before .before .before .before .before .before .before .before .execute .ensures)
+
+returns : tie.Need-returns
+returns c =
+    let g = c .before .before .before in
+    let s = g .before .before .before .before .before .before .before .before .before .before .before .before .before .before in
+    promise-refused (s .args .own) (marks s) (queue s) (s .pre .0) (s .args .h) _ _ (sym (ap verdictOf (c .before .refusal .given .1)) ∙ judged g) refl
+
+returns-2 : tie.Need-returns-2
+returns-2 c =
+    let g = c .before .before in
+    let s = g .before .before .before .before .before .before .before .before .before .before .before .before .before .before in
+    promise-known (s .args .own) (marks s) (queue s) (s .pre .0) (s .args .h) _ (sym (ap verdictOf (c .enum-told .given .1)) ∙ judged g) refl
+
+returns-3 : tie.Need-returns-3
+returns-3 c =
+    let g = c .before .before .before .before .before .before .before .before in
+    let s = g .before .before .before .before .before .before .before .before .before .before .before .before .before .before in
+    promise-holds (s .args .own) (marks s) (queue s) (s .pre .0) (s .args .h) _ _ (sym (ap verdictOf (c .before .before .before .before .before .before .enum-told2 .given .1)) ∙ judged g) (c .push .ensures) refl
+
+returns-4 : tie.Need-returns-4
+returns-4 c =
+    let g = c .before .before .before .before .before .before .before .before .before .before .before .before .before .before .before .before .before .before .before .before .before .before .before .before .before .before .before in
+    let s = g .before .before .before .before .before .before .before .before .before .before .before .before .before .before in
+    promise-runs (s .args .own) (marks s) (queue s) (s .pre .0) (s .args .h) (s .pre .1) (sym (ap verdictOf (c .before .before .before .before .before .before .before .before .before .before .before .before .before .before .before .before .before .before .before .before .before .before .before .before .before .enum-told3 .given .1)) ∙ judged g) _ (c .before .before .before .before .before .before .before .before .before .before .before .before .before .before .before .execute .ensures) _ _ (c .release .result) (c .release .ensures)
+
+pub arrive-spec : {M : Type 1} → statement M
+arrive-spec =
+    tie.close
+    (tie.spec
+    judge-requires
+    (λ c. search needs)
+    (λ c. search needs)
+    (λ c. search needs)
+    push-requires
+    (λ c. search needs)
+    execute-requires
+    release-requires
+    returns
+    returns-2
+    returns-3
+    returns-4)

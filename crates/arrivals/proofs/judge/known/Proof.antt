@@ -1,0 +1,15 @@
+-- `known` meets its contract: by what `same_mark` found.
+use mathlib.Core.Path.{_∙_, ap, sym}
+use Rattle.arrivals.specs.Steps.{knownIf}
+use borrow.Author.Needs.{needs}
+use Rattle.arrivals.proofs.judge.known.Statement.{statement}
+use Rattle.arrivals.proofs.judge.known.Tie as tie
+
+returns : tie.Need-returns
+returns c = ap knownIf (sym (c .if1 .taken) ∙ c .before .same-mark .ensures)
+
+returns-2 : tie.Need-returns-2
+returns-2 c = ap knownIf (sym (c .if1 .left) ∙ c .before .same-mark .ensures)
+
+pub known-spec : {M : Type 1} → statement M
+known-spec = tie.close (tie.spec (λ c κs. search needs) returns returns-2)

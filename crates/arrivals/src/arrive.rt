@@ -1,0 +1,100 @@
+// A mark that its frame gave: refused, known, set waiting, or executed with what it releases.
+ghost use Rattle.causality.proofs.Fit.{Fit};
+ghost use Rattle.rows.specs.View.{width, heldMark};
+ghost use Rattle.executed.specs.Arrays.{here, found, left};
+ghost use Rattle.waiting.specs.Queue.{here as heldHere, found as heldFound, left as heldLeft};
+ghost use Rattle.arrivals.specs.Kept.{KeptIn};
+ghost use Rattle.arrivals.specs.Steps.{Arrived};
+use crate::Verdict;
+use crate::judge;
+use crate::release;
+use causality::Received;
+use rows::BOX;
+use rows::Held;
+use rows::PLACES;
+use rows::WIDTH;
+use waiting::WAITING;
+
+// Nothing is stored before the verdict. wdesks and so on are the arrays of the waiting marks.
+pub fn arrive(
+    own: u8,
+    count: &mut usize,
+    desks: &mut [u8; PLACES],
+    numbers: &mut [u16; PLACES],
+    boxes: &mut [u32; PLACES * BOX],
+    stamps: &mut [u16; PLACES * WIDTH],
+    tally: &mut [u16; WIDTH],
+    heads: &mut [u16; WIDTH],
+    last: &mut [u16; WIDTH],
+    before: &mut [u16; PLACES],
+    waiting: &mut usize,
+    wdesks: &mut [u8; WAITING],
+    wnumbers: &mut [u16; WAITING],
+    wboxes: &mut [u32; WAITING * BOX],
+    wstamps: &mut [u16; WAITING * WIDTH],
+    h: Held,
+) -> Received
+    requires { ⌜ KeptIn own (here count desks numbers boxes stamps tally heads last before) (heldHere waiting wdesks wnumbers wboxes wstamps)
+        × Fit width (heldMark h) ⌝ }
+    ensures { λ r. ⌜ Arrived own
+        (found count desks numbers boxes stamps tally heads last before) (heldFound waiting wdesks wnumbers wboxes wstamps)
+        (left count desks numbers boxes stamps tally heads last before) (heldLeft waiting wdesks wnumbers wboxes wstamps) h r ⌝ }
+{
+    let at = *count;
+    let held = *waiting;
+    match judge::judge(
+        own,
+        at,
+        desks,
+        numbers,
+        boxes,
+        stamps,
+        tally,
+        last,
+        before,
+        held,
+        wdesks,
+        wnumbers,
+        wboxes,
+        wstamps,
+        h,
+    ) {
+        Verdict::Refused(refusal) => Received::Refused(refusal),
+        Verdict::Known => Received::Known,
+        Verdict::Waits => {
+            waiting::push(waiting, wdesks, wnumbers, wboxes, wstamps, h);
+            Received::Waiting
+        }
+        Verdict::Runs => {
+            executed::execute(
+                count,
+                desks,
+                numbers,
+                boxes,
+                stamps,
+                tally,
+                heads,
+                last,
+                before,
+                h,
+            );
+            let done = release::release(
+                count,
+                desks,
+                numbers,
+                boxes,
+                stamps,
+                tally,
+                heads,
+                last,
+                before,
+                waiting,
+                wdesks,
+                wnumbers,
+                wboxes,
+                wstamps,
+            );
+            Received::Executed(done.executed, done.dropped)
+        }
+    }
+}

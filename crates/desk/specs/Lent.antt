@@ -1,0 +1,71 @@
+-- Desks whose arrays are lent to a call.
+use denote.Ref.{RefT}
+use mathlib.Core.List.{List}
+use mathlib.Core.Path.{_≡_}
+use Prim.Native.Nat.{ℕ}
+use Rattle.frame.specs.declared.MarkBox.{MarkBox}
+use Rattle.causality.specs.declared.Marked.{Marked}
+use Rattle.causality.specs.declared.Received.{Received}
+use Rattle.executed.specs.Arrays.{Arrays, Lending, arrays}
+use Rattle.waiting.specs.declared.Waiting.{Waiting}
+use Rattle.desk.specs.declared.Desk.{Desk}
+use Rattle.desk.specs.Promises.{MarkPromise, ReceivePromise}
+use Rattle.desk.specs.StateOf.{Kept}
+
+-- The desk of these arrays and waiting marks.
+abbrev pub deskOf : ℕ → Arrays → Waiting → Desk
+deskOf own a q = record {
+  own = own;
+  count = a .count;
+  desks = a .desks;
+  numbers = a .numbers;
+  boxes = a .boxes;
+  stamps = a .stamps;
+  tally = a .tally;
+  heads = a .heads;
+  last = a .last;
+  before = a .before;
+  queue = q;
+}
+
+-- MARK, which is lent the arrays of the executed marks and told how many wait
+
+pub record MarkLent (own waiting : ℕ) (a : Arrays) : Type 0 where
+  pub queue : Waiting
+  pub held : queue .count ≡ waiting
+  pub kept : Kept (deskOf own a queue)
+
+-- Of each desk that has these arrays and so many waiting marks: what Mark promises.
+abbrev pub Marking : ℕ → ℕ → Arrays → Arrays → MarkBox → Lending (List ℕ) → Marked → Type 0
+Marking own waiting a b extent out r = (q : Waiting) → q .count ≡ waiting → Kept (deskOf own a q)
+    → MarkPromise (deskOf own a q) extent (out .entry .now) (out .exit .now) (record { desk = deskOf own b q; answer = r })
+
+-- RECEIVE, which is lent all
+
+abbrev pub Receiving : ℕ → Arrays → Waiting → Arrays → Waiting → List ℕ → Received → Type 0
+Receiving own a q b r frame answer = ReceivePromise (deskOf own a q) frame (record { desk = deskOf own b r; answer = answer })
+
+-- QUERIES, which are lent some of the arrays: `a` has them, by what is not lent
+
+-- They are those of some desk that came from New and the calls.
+pub record SomeDesk {A : Type 0} (a : A → Arrays) : Type 0 where
+  pub own : ℕ
+  pub rest : A
+  pub queue : Waiting
+  pub kept : Kept (deskOf own (a rest) queue)
+
+-- What is promised of every such desk.
+abbrev pub EachDesk : {A : Type 0} → (A → Arrays) → (Desk → Type 0) → Type 0
+EachDesk a P = (own : ℕ) (rest : _) (queue : Waiting) → Kept (deskOf own (a rest) queue) → P (deskOf own (a rest) queue)
+
+-- What Frame again is lent: all but the count and the heads.
+abbrev pub againLent : RefT (List ℕ) → RefT (List ℕ) → RefT (List ℕ) → RefT (List ℕ) → RefT (List ℕ) → RefT (List ℕ) → RefT (List ℕ) → ℕ × List ℕ → Arrays
+againLent ds ns bs ss ts ls bf x = arrays (x .0) (ds .now) (ns .now) (bs .now) (ss .now) (ts .now) (x .1) (ls .now) (bf .now)
+
+-- What Relate and First apart are lent: no count, boxes or heads.
+abbrev pub queryLent : RefT (List ℕ) → RefT (List ℕ) → RefT (List ℕ) → RefT (List ℕ) → RefT (List ℕ) → RefT (List ℕ) → ℕ × List ℕ × List ℕ → Arrays
+queryLent ds ns ss ts ls bf x = arrays (x .0) (ds .now) (ns .now) (x .1) (ss .now) (ts .now) (x .2) (ls .now) (bf .now)
+
+-- What Apart is lent: no boxes or heads.
+abbrev pub apartLent : ℕ → RefT (List ℕ) → RefT (List ℕ) → RefT (List ℕ) → RefT (List ℕ) → RefT (List ℕ) → RefT (List ℕ) → List ℕ × List ℕ → Arrays
+apartLent count ds ns ss ts ls bf x = arrays count (ds .now) (ns .now) (x .0) (ss .now) (ts .now) (x .1) (ls .now) (bf .now)

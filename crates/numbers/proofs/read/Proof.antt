@@ -1,0 +1,16 @@
+-- `read` meets its contract, case by case.
+use mathlib.Core.Path.{_∙_, ap, refl, sym}
+use borrow.Author.Needs.{needs}
+use Rattle.rows.specs.View.{noBox}
+use Rattle.numbers.specs.Numbers.{readNumbers}
+use Rattle.numbers.proofs.read.Statement.{statement}
+use Rattle.numbers.proofs.read.Tie as tie
+
+returns : tie.Need-returns
+returns c = (ap readNumbers (c .before .before .before .answer .given .1), refl)
+
+returns-2 : tie.Need-returns-2
+returns-2 c = (ap readNumbers (c .before .before .answer2 .given .1) ∙ (λ i. (sym (c .number2 .ensures) i, 0, 0, noBox)), refl)
+
+pub read-spec : {M : Type 1} → statement M
+read-spec = tie.close (tie.spec (λ c. search needs) (λ c. search needs) (λ c κs. search needs) returns returns-2)

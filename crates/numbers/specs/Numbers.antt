@@ -1,0 +1,66 @@
+-- The answers of the calls as the numbers that a host gets: the refusal's number, 0 where there is none, and the values.
+use Prim.Native.Nat.{ℕ}
+use Rattle.frame.specs.Answer.{numberOf}
+use Rattle.frame.specs.declared.MarkBox.{MarkBox}
+use Rattle.rows.specs.View.{noBox}
+use Rattle.frame.specs.declared.Reading.{Reading}
+use Rattle.frame.specs.declared.Reading.the-variants.{Fields as IsRead, Refused as NotRead}
+use Rattle.frame.specs.declared.Writing.{Writing}
+use Rattle.frame.specs.declared.Writing.the-variants.{Size, Refused as NotWritten}
+use Rattle.causality.specs.declared.Created.{Created}
+use Rattle.causality.specs.declared.Created.the-variants.{Empty, Refused as NotCreated}
+use Rattle.causality.specs.declared.Marked.{Marked}
+use Rattle.causality.specs.declared.Marked.the-variants.{Made, Refused as NotMarked}
+use Rattle.causality.specs.declared.Received.{Received}
+use Rattle.causality.specs.declared.Received.the-variants.{Known, Waiting, Executed, Refused as NotReceived}
+use Rattle.causality.specs.declared.Related.{Related}
+use Rattle.causality.specs.declared.Related.the-variants.{Same, Before, After, Concurrent, Refused as NotRelated}
+use Rattle.causality.specs.declared.Lowest.{Lowest}
+use Rattle.causality.specs.declared.Lowest.the-variants.{Number, None, Refused as NoLowest}
+use Rattle.causality.specs.declared.Counted.{Counted}
+use Rattle.causality.specs.declared.Counted.the-variants.{Count, Refused as NotCounted}
+
+abbrev pub createdNumber : Created → ℕ
+createdNumber Empty = 0
+createdNumber (NotCreated r) = numberOf r
+
+-- Refusal, number, size.
+abbrev pub markedNumbers : Marked → ℕ × ℕ × ℕ
+markedNumbers (Made n size) = (0, n .0, size)
+markedNumbers (NotMarked r) = (numberOf r, 0, 0)
+
+-- Refusal; 1 Known, 2 Waiting, 3 Executed; k; f.
+abbrev pub receivedNumbers : Received → ℕ × ℕ × ℕ × ℕ
+receivedNumbers Known = (0, 1, 0, 0)
+receivedNumbers Waiting = (0, 2, 0, 0)
+receivedNumbers (Executed k f) = (0, 3, k, f)
+receivedNumbers (NotReceived r) = (numberOf r, 0, 0, 0)
+
+-- Refusal; 1 Same, 2 Before, 3 After, 4 Concurrent.
+abbrev pub relatedNumbers : Related → ℕ × ℕ
+relatedNumbers Same = (0, 1)
+relatedNumbers Before = (0, 2)
+relatedNumbers After = (0, 3)
+relatedNumbers Concurrent = (0, 4)
+relatedNumbers (NotRelated r) = (numberOf r, 0)
+
+-- Refusal; how many.
+abbrev pub countedNumbers : Counted → ℕ × ℕ
+countedNumbers (Count n) = (0, n)
+countedNumbers (NotCounted r) = (numberOf r, 0)
+
+-- Refusal; the lowest number, or 0.
+abbrev pub lowestNumbers : Lowest → ℕ × ℕ
+lowestNumbers (Number n) = (0, n .0)
+lowestNumbers None = (0, 0)
+lowestNumbers (NoLowest r) = (numberOf r, 0)
+
+-- Refusal, size.
+abbrev pub writtenNumbers : Writing → ℕ × ℕ
+writtenNumbers (Size n) = (0, n)
+writtenNumbers (NotWritten r) = (numberOf r, 0)
+
+-- Refusal, desk, number, box.
+abbrev pub readNumbers : Reading → ℕ × ℕ × ℕ × MarkBox
+readNumbers (IsRead f) = (0, f .desk, f .number .0, f .extent)
+readNumbers (NotRead r) = (numberOf r, 0, 0, noBox)

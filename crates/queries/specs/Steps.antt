@@ -1,0 +1,60 @@
+-- What the inner functions of the queries find. Inner: need not be believed.
+use mathlib.Core.Bool.{Bool, true, false}
+use mathlib.Core.List.{List, [], _∷_}
+use mathlib.Core.Path.{_≡_}
+use Prim.Native.Nat.{ℕ, _≤_, _<_}
+use lib.Dec.{T, leb, ltb}
+use lib.ListN.{length}
+use Rattle.frame.specs.declared.MarkBox.{MarkBox}
+use Rattle.frame.specs.Mark.{MarkId}
+use Rattle.causality.specs.Marks.{has, keep, tally}
+use Rattle.causality.specs.State.{concurrent, ids, precedes}
+use Rattle.causality.proofs.Apart.{noted}
+use Rattle.causality.proofs.Reach.{Sound}
+use Rattle.causality.proofs.RowLaws.{under}
+use Rattle.executed.specs.Rows.{Chain}
+use Rattle.pairs.specs.declared.Listed.{Listed}
+use Rattle.rows.specs.View.{Named, nameAt, namesDown, rowFn, view, width}
+use Rattle.queries.specs.Found.{Spare}
+
+-- Of a mark that is none of the first `to`, r says whether entries lead to it from a row and the marks before a place.
+abbrev pub Leads : List ℕ → List ℕ → List ℕ → List ℕ → ℕ → ℕ → MarkId → Bool → Type 0
+Leads ds ns ss row at to i r = (bs : ℕ → MarkBox) → Sound (view width at ds ns bs ss)
+    → has i (ids (view width to ds ns bs ss)) ≡ false → 1 ≤ i .number
+    → r ≡ leb (i .number) (under (view width at ds ns bs ss) (λ d. 0) (rowFn row) (i .desk))
+
+-- r says whether the mark at place p precedes that at place q.
+abbrev pub PrecedesAt : List ℕ → List ℕ → List ℕ → ℕ → ℕ → Bool → Type 0
+PrecedesAt ds ns ss p q r = (count : ℕ) (bs : ℕ → MarkBox) → q < count → Sound (view width count ds ns bs ss)
+    → r ≡ precedes (view width count ds ns bs ss) (nameAt ds ns p) (nameAt ds ns q)
+
+-- A row tells of each of the first `count` marks whether it precedes that at place p. n: how many desks.
+abbrev pub PastTold : ℕ → List ℕ → List ℕ → (ℕ → MarkBox) → List ℕ → ℕ → ℕ → List ℕ → Type 0
+PastTold n ds ns bs ss count p row = (i : MarkId) → T (has i (ids (view n count ds ns bs ss)))
+    → precedes (view n count ds ns bs ss) i (nameAt ds ns p) ≡ leb (i .number) (rowFn row (i .desk))
+
+-- The row of the past of the mark at place p, however many marks there are.
+abbrev pub PastOf : List ℕ → List ℕ → List ℕ → ℕ → List ℕ → Type 0
+PastOf ds ns ss p row = (count : ℕ) (bs : ℕ → MarkBox) → p < count → Named width count ds → Sound (view width count ds ns bs ss)
+    → PastTold width ds ns bs ss count p row
+
+-- The names of the first p marks, of names newest first.
+abbrev pub upTo : ℕ → List MarkId → List MarkId
+upTo p [] = []
+upTo p (i ∷ is) = elim (ltb (length is) p) [ true ↦ i ∷ is | false ↦ upTo p is ]
+
+-- So many marks of desk d are among the first p, by the kept chain of places.
+abbrev pub Made : List ℕ → List ℕ → List ℕ → ℕ → ℕ → ℕ → Type 0
+Made ts ls bf d p r = (is : List MarkId) → Chain is ts ls bf → r ≡ tally d (upTo p is)
+
+-- The row of first followers, with one mark more noted.
+pub record Noted (before : List ℕ) (i : MarkId) (after : List ℕ) : Type 0 where
+  pub long : length after ≡ width
+  pub counts : (d : ℕ) → 1 ≤ d → d ≤ width → rowFn after d ≡ noted (rowFn before) i d
+
+-- The marks apart from that at place p, of the first `count`.
+pub record ApartAt (ds ns ss : List ℕ) (count p : ℕ) (r : Listed) : Type 0 where
+  pub few : r .count ≤ count
+  pub spare : Spare r
+  pub names : (bs : ℕ → MarkBox) → Sound (view width count ds ns bs ss)
+      → namesDown (r .count) (r .desks) (r .numbers) ≡ keep (concurrent (view width count ds ns bs ss) (nameAt ds ns p)) (ids (view width count ds ns bs ss))

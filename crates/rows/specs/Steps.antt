@@ -1,0 +1,36 @@
+-- What the inner functions do to lent rows and arrays. Inner: need not be believed.
+use mathlib.Core.Path.{_≡_}
+use mathlib.Core.List.{List}
+use Prim.Native.Nat.{ℕ, suc, max, _+_, _*_, _≤_, _<_}
+use lib.ListN.{length, getD, set}
+use Rattle.frame.specs.declared.MarkBox.{MarkBox}
+use Rattle.causality.proofs.RowLaws.{under}
+use Rattle.rows.specs.declared.Held.{Held}
+use Rattle.rows.specs.View.{width, rowFn, view, boxAt, SameOutside}
+
+-- A row joined with row p of the stamps: at each desk the greater count.
+pub record Joined (ss : List ℕ) (p : ℕ) (before after : List ℕ) : Type 0 where
+  pub long : length after ≡ width
+  pub counts : (j : ℕ) → j < width → getD after j 0 ≡ max (getD before j 0) (getD ss (p * width + j) 0)
+
+-- The pass of the trace from a place down to another: from there it gives the same.
+pub record Traced (ds ns ss entries : List ℕ) (at : ℕ) (before : List ℕ) (to : ℕ) (after : List ℕ) : Type 0 where
+  pub long : length after ≡ width
+  pub same-pass : (bs : ℕ → MarkBox) (j : ℕ) → j < width
+      → under (view width to ds ns bs ss) (rowFn entries) (rowFn after) (suc j) ≡ under (view width at ds ns bs ss) (rowFn entries) (rowFn before) (suc j)
+
+-- Slot p is one of the arrays'.
+pub record HasSlot (p : ℕ) (ds ns bs ss : List ℕ) : Type 0 where
+  pub desks : p < length ds
+  pub numbers : p < length ns
+  pub boxes : p * 4 + 4 ≤ length bs
+  pub stamps : p * width + width ≤ length ss
+
+-- A mark stored in slot p; all else is as it was.
+pub record Stored (p : ℕ) (h : Held) (ds ns bs ss ds′ ns′ bs′ ss′ : List ℕ) : Type 0 where
+  pub desks : ds′ ≡ set ds p (h .desk)
+  pub numbers : ns′ ≡ set ns p (h .number .0)
+  pub boxes : SameOutside bs bs′ (p * 4) 4
+  pub extent : boxAt bs′ p ≡ h .extent
+  pub stamps : SameOutside ss ss′ (p * width) width
+  pub row : (j : ℕ) → j < width → getD ss′ (p * width + j) 0 ≡ getD (h .row) j 0

@@ -1,0 +1,89 @@
+-- No two waiting marks have the same name, in every state that came from New and the calls. Assumes nothing.
+use Prim.Native.Nat.{ℕ, suc, zero}
+use lib.ListN.{length}
+use mathlib.Core.Bool.{Bool, _||_, false, true}
+use mathlib.Core.List.{List, [], _++_, _∷_}
+use mathlib.Core.Option.{Option, none, some}
+use mathlib.Core.Path.{_∙_, _≡_, ap, refl, sym}
+use Rattle.frame.specs.declared.Fields.{Fields}
+use Rattle.frame.specs.declared.MarkBox.{MarkBox}
+use Rattle.frame.specs.Answer.{Answer, gives, refused}
+use Rattle.frame.specs.Frame.{edition, readFields}
+use Rattle.frame.specs.Mark.{MarkId, isDesk}
+use Rattle.causality.specs.Answers.{Numbered}
+use Rattle.causality.specs.Calls.{Created, FromCalls, Received, created, empty, execute, executing, ifRead, mark, markAnswer, markIn, marked, new, newMark, receive, receiveMark, received, refuse, release, stateIf}
+use Rattle.causality.specs.Marks.{find, has, lowest, same, without}
+use Rattle.causality.specs.State.{Mark, State, falseStamp, ids, markId, ready}
+use Rattle.causality.proofs.Lists.{find-has, has-append, ids-append, isSome}
+use Rattle.causality.proofs.Cases.{ReceiveCase, executes, receive-case, stays, waits}
+use Rattle.waiting.specs.Queue.{Distinct}
+use Rattle.waiting.proofs.ListLaws.{or-fst, or-snd}
+
+-- Fewer marks have a name that more do not have.
+has-without : (b a : MarkId) (xs : List Mark) → has b (ids xs) ≡ false → has b (ids (without markId a xs)) ≡ false
+has-without b a [] e = refl
+has-without b a (x ∷ xs) e = go (same a (x .id)) (has-without b a xs (or-snd (same b (x .id)) (has b (ids xs)) e))
+  where
+    go : (c : Bool) → has b (ids (without markId a xs)) ≡ false → has b (ids (elim c as (λ y. List Mark) [ true ↦ without markId a xs | false ↦ x ∷ without markId a xs ])) ≡ false
+    go true h = h
+    go false h = let q = or-fst (same b (x .id)) (has b (ids xs)) e in λ i. q i || h i
+
+pub distinct-without : (a : MarkId) (xs : List Mark) → Distinct xs → Distinct (without markId a xs)
+distinct-without a [] d = d
+distinct-without a (x ∷ xs) d = go (same a (x .id)) (distinct-without a xs (d .1))
+  where
+    go : (c : Bool) → Distinct (without markId a xs) → Distinct (elim c as (λ y. List Mark) [ true ↦ without markId a xs | false ↦ x ∷ without markId a xs ])
+    go true h = h
+    go false h = (has-without (x .id) a xs (d .0), h)
+
+pub distinct-release : (turns : ℕ) (l ws : List Mark) (k f : ℕ) → Distinct ws → Distinct ((release turns l ws k f) .waiting)
+distinct-release zero l ws k f d = d
+distinct-release (suc turns) l ws k f d = go (lowest markId (ready l) ws) refl (distinct-release turns)
+  where
+    go : (o : Option Mark) → lowest markId (ready l) ws ≡ o → ((l ws : List Mark) (k f : ℕ) → Distinct ws → Distinct ((release turns l ws k f) .waiting)) → Distinct ((release (suc turns) l ws k f) .waiting)
+    go none e ih = rw (e, release) d
+    go (some w) e ih = by (falseStamp l w) refl
+      where
+        by : (c : Bool) → falseStamp l w ≡ c → Distinct ((release (suc turns) l ws k f) .waiting)
+        by true q = rw (e, release) (rw q (ih l (without markId (w .id) ws) k (suc f) (distinct-without (w .id) ws d)))
+        by false q = rw (e, release) (rw q (ih (w ∷ l) (without markId (w .id) ws) (suc k) f (distinct-without (w .id) ws d)))
+
+-- A name that is not found is none of the later ones.
+absent : (a : MarkId) (xs ys : List Mark) → find markId a (xs ++ ys) ≡ none → has a (ids ys) ≡ false
+absent a xs ys e = or-snd (has a (ids xs)) (has a (ids ys)) (sym (has-append a (ids xs) (ids ys)) ∙ ap (has a) (sym (ids-append xs ys)) ∙ find-has a (xs ++ ys) ∙ ap isSome e)
+
+module _ (N : ℕ) where
+  distinct-mark : (st : State) (m : Mark) (s : List ℕ) → Distinct (st .waiting) → Distinct ((receiveMark N st m s) .state .waiting)
+  unfolding executing
+  distinct-mark st m s d = go (receive-case N st m s)
+    where
+      go : {x : Received} → ReceiveCase st m x → Distinct (x .state .waiting)
+      go (stays a) = d
+      go (waits a b c) = (absent (m .id) (st .executed) (st .waiting) (a .absent), d)
+      go (executes a b c) = distinct-release (length (st .waiting)) (m ∷ st .executed) (st .waiting) 1 0 d
+
+  distinct-receive : (st : State) (s : List ℕ) → Distinct (st .waiting) → Distinct ((receive N st s) .state .waiting)
+  unfolding receive refuse
+  distinct-receive st s d = go (readFields (edition N) s)
+    where
+      go : (a : Answer Fields) → Distinct ((ifRead a st (receiveMark N st (markIn N s) s)) .state .waiting)
+      go (gives f) = distinct-mark st (markIn N s) s d
+      go (refused c) = d
+
+  distinct-marked : (st : State) (b : MarkBox) (out : List ℕ) → Distinct (st .waiting) → Distinct ((mark N st b out) .state .waiting)
+  unfolding mark
+  distinct-marked st b out d = go (markAnswer N st b (length out))
+    where
+      go : (a : Answer Numbered) → Distinct ((stateIf a (execute (newMark st b) st) st) .waiting)
+      go (gives n) = d
+      go (refused c) = d
+
+  pub waiting-distinct : {st : State} → FromCalls N st → Distinct (st .waiting)
+  unfolding new
+  waiting-distinct (created d) = go (isDesk N d)
+    where
+      go : (b : Bool) → Distinct ((elim b as (λ x. Created) [ true ↦ record { state = empty d; answer = gives d } | false ↦ record { state = empty 1; answer = refused 1 } ]) .state .waiting)
+      go true = tt
+      go false = tt
+  waiting-distinct (marked c b out) = distinct-marked _ b out (waiting-distinct c)
+  waiting-distinct (received c s) = distinct-receive _ s (waiting-distinct c)
