@@ -5,8 +5,10 @@
 #include "../include/kaungimewe.h"
 
 _Static_assert(sizeof(kaungimewe_box) == 16, "a box has 16 bytes");
-_Static_assert(sizeof(kaungimewe_held) == 52, "a waiting mark has 52 bytes");
-_Static_assert(sizeof(kaungimewe_desk) == 29464, "a desk has 29,464 bytes");
+_Static_assert(sizeof(kaungimewe_mark_id) == 4, "a mark's name has 4 bytes");
+_Static_assert(offsetof(kaungimewe_mark_id, number) == 2, "the number stands at offset 2");
+_Static_assert(sizeof(kaungimewe_waiting) == 3272, "waiting marks have 3,272 bytes");
+_Static_assert(sizeof(kaungimewe_desk) == 30520, "a desk has 30,520 bytes");
 
 typedef struct {
     uint8_t bytes[KAUNGIMEWE_LARGEST_FRAME];
@@ -14,6 +16,7 @@ typedef struct {
 } frame;
 
 static kaungimewe_desk desk[5]; /* desk[d] is desk d */
+static kaungimewe_desk before;  /* a desk before the call, to compare with: no call is made with it */
 static unsigned passed, failed;
 
 static void check(int holds, const char *what)
@@ -26,38 +29,62 @@ static void check(int holds, const char *what)
     }
 }
 
+static void remember(int d)
+{
+    memcpy(&before, &desk[d], sizeof before);
+}
+
+static void check_unchanged(int d, const char *what)
+{
+    check(memcmp(&before, &desk[d], sizeof before) == 0, what);
+}
+
 /* Desk d makes a mark with the box 1,000 to 1,500 ms, 100 to 400 Hz. */
 static frame mark(int d, unsigned number, size_t size)
 {
     frame f;
-    kaungimewe_mark_answer a = kaungimewe_mark(desk[d], 1000, 1500, 100, 400, f.bytes, sizeof f.bytes);
-    desk[d] = a.desk;
+    kaungimewe_mark_answer a = kaungimewe_mark(&desk[d], 1000, 1500, 100, 400, f.bytes, sizeof f.bytes);
     f.size = a.size;
     check(a.refusal == 0 && a.number == number && a.size == size, "mark answers its number and size");
     return f;
 }
 
+/* Desk d refuses to mark with this number, is as it was and has written nothing. */
+static void refuse_mark(int d, uint32_t end, size_t lent, unsigned refusal)
+{
+    uint8_t out[KAUNGIMEWE_LARGEST_FRAME];
+    memset(out, 0x77, sizeof out);
+    remember(d);
+    kaungimewe_mark_answer a = kaungimewe_mark(&desk[d], 1000, end, 100, 400, out, lent);
+    check(a.refusal == refusal && a.number == 0 && a.size == 0, "mark refuses");
+    check_unchanged(d, "a refused mark leaves the desk");
+    check(out[0] == 0x77, "a refused mark writes nothing");
+}
+
 /* Desk d receives a frame and answers so. */
 static void receive(int d, frame f, unsigned kind, unsigned executed, unsigned dropped)
 {
-    kaungimewe_receive_answer a = kaungimewe_receive(desk[d], f.bytes, f.size);
-    desk[d] = a.desk;
+    remember(d);
+    kaungimewe_receive_answer a = kaungimewe_receive(&desk[d], f.bytes, f.size);
     check(a.refusal == 0 && a.kind == kind, "receive answers its kind");
     check(a.executed == executed && a.dropped == dropped, "receive answers how many were executed and dropped");
+    if (kind == KAUNGIMEWE_KNOWN) {
+        check_unchanged(d, "a known mark leaves the desk");
+    }
 }
 
 /* Desk d receives a frame, refuses it with this number and is as it was. */
 static void refuse(int d, frame f, unsigned refusal)
 {
-    kaungimewe_receive_answer a = kaungimewe_receive(desk[d], f.bytes, f.size);
+    remember(d);
+    kaungimewe_receive_answer a = kaungimewe_receive(&desk[d], f.bytes, f.size);
     check(a.refusal == refusal && a.kind == 0 && a.executed == 0 && a.dropped == 0, "receive refuses");
-    check(a.desk.count == desk[d].count && a.desk.queue.count == desk[d].queue.count, "a refusal leaves the desk");
-    desk[d] = a.desk;
+    check_unchanged(d, "a refusal leaves the desk");
 }
 
 static unsigned relate(int d, uint8_t a_desk, uint16_t a_number, uint8_t b_desk, uint16_t b_number)
 {
-    return kaungimewe_relate(KAUNGIMEWE_LENT(desk[d]), a_desk, a_number, b_desk, b_number).relation;
+    return kaungimewe_relate(&desk[d], a_desk, a_number, b_desk, b_number).relation;
 }
 
 static void new_desks(void)
@@ -81,19 +108,44 @@ static void check_bytes(frame f12)
     check(f12.size == 32 && memcmp(f12.bytes, expected, 32) == 0, "the frame of 1.2");
 }
 
+/* What desk 3 keeps beside its marks 3.1, 3.2, 1.1, 2.1, 1.2, 2.2, 4.1. */
+static void check_rows(void)
+{
+    static const uint16_t tally[KAUNGIMEWE_DESKS] = {2, 2, 2, 1};
+    static const uint16_t heads[KAUNGIMEWE_DESKS] = {0, 2, 0, 1};
+    static const uint16_t last[KAUNGIMEWE_DESKS] = {5, 6, 2, 7};
+    static const uint16_t previous[7] = {0, 1, 0, 0, 3, 4, 0};
+    check(desk[3].count == 7 && desk[3].queue.count == 0, "seven marks are executed, none waits");
+    check(memcmp(desk[3].tally, tally, sizeof tally) == 0, "the tally");
+    check(memcmp(desk[3].heads, heads, sizeof heads) == 0, "the heads are 2.2 and 4.1");
+    check(memcmp(desk[3].last, last, sizeof last) == 0, "the place of each desk's last mark");
+    check(memcmp(desk[3].before, previous, sizeof previous) == 0, "the place of each mark's previous one");
+}
+
+static int named(kaungimewe_mark_id id, unsigned d, unsigned number)
+{
+    return id.desk == d && id.number == number;
+}
+
 static void check_apart(void)
 {
-    static const uint8_t desks[3] = {2, 1, 2};
-    static const uint16_t numbers[3] = {1, 2, 2};
-    kaungimewe_apart_answer a = kaungimewe_apart(KAUNGIMEWE_LENT(desk[3]), 4, 1, 3);
+    kaungimewe_mark_id out[4] = {{99, 9}, {99, 9}, {99, 9}, {99, 9}};
+    check(kaungimewe_apart(&desk[3], 4, 1, out, 2).refusal == KAUNGIMEWE_OUTPUT_SHORT, "room for two");
+    check(kaungimewe_apart(&desk[3], 4, 2, out, 4).refusal == KAUNGIMEWE_NOT_EXECUTED, "4.2 is not there");
+    check(named(out[0], 99, 9), "a refused apart writes nothing");
+    kaungimewe_apart_answer a = kaungimewe_apart(&desk[3], 4, 1, out, 4);
     check(a.refusal == 0 && a.count == 3, "three marks are apart from 4.1");
-    check(memcmp(a.desks, desks, sizeof desks) == 0 && memcmp(a.numbers, numbers, sizeof numbers) == 0,
-          "they are 2.1, 1.2, 2.2");
-    check(kaungimewe_apart(KAUNGIMEWE_LENT(desk[3]), 4, 1, 2).refusal == KAUNGIMEWE_OUTPUT_SHORT, "room for two");
-    check(kaungimewe_first_apart(KAUNGIMEWE_LENT(desk[3]), 4, 1, 1).number == 2, "first apart of 4.1 at desk 1");
-    check(kaungimewe_first_apart(KAUNGIMEWE_LENT(desk[3]), 4, 1, 2).number == 1, "first apart of 4.1 at desk 2");
-    check(kaungimewe_first_apart(KAUNGIMEWE_LENT(desk[3]), 4, 1, 3).number == 0, "first apart of 4.1 at desk 3");
-    check(kaungimewe_first_apart(KAUNGIMEWE_LENT(desk[3]), 4, 1, 17).refusal == KAUNGIMEWE_DESK_RANGE, "desk 17");
+    check(named(out[0], 2, 1) && named(out[1], 1, 2) && named(out[2], 2, 2), "they are 2.1, 1.2, 2.2");
+    check(named(out[3], 99, 9), "later names keep their values");
+    check(kaungimewe_apart(&desk[3], 4, 1, out, 3).count == 3, "room for three");
+}
+
+static void check_first_apart(void)
+{
+    check(kaungimewe_first_apart(&desk[3], 4, 1, 1).number == 2, "first apart of 4.1 at desk 1");
+    check(kaungimewe_first_apart(&desk[3], 4, 1, 2).number == 1, "first apart of 4.1 at desk 2");
+    check(kaungimewe_first_apart(&desk[3], 4, 1, 3).number == 0, "first apart of 4.1 at desk 3");
+    check(kaungimewe_first_apart(&desk[3], 4, 1, 17).refusal == KAUNGIMEWE_DESK_RANGE, "desk 17");
 }
 
 static void check_relations(void)
@@ -102,16 +154,16 @@ static void check_relations(void)
     check(relate(3, 1, 2, 3, 2) == KAUNGIMEWE_CONCURRENT, "1.2 concurrent with 3.2");
     check(relate(3, 2, 2, 1, 1) == KAUNGIMEWE_AFTER, "2.2 after 1.1");
     check(relate(3, 4, 1, 4, 1) == KAUNGIMEWE_SAME, "4.1 the same as 4.1");
-    check(kaungimewe_relate(KAUNGIMEWE_LENT(desk[3]), 4, 1, 4, 2).refusal == KAUNGIMEWE_NOT_EXECUTED, "4.2 is not there");
+    check(kaungimewe_relate(&desk[3], 4, 1, 4, 2).refusal == KAUNGIMEWE_NOT_EXECUTED, "4.2 is not there");
 }
 
 static void check_frames(frame f12)
 {
     uint8_t out[40];
     memset(out, 0x77, sizeof out);
-    check(kaungimewe_frame_again(KAUNGIMEWE_LENT_WITH_BOXES(desk[3]), 1, 2, out, 31).refusal == KAUNGIMEWE_OUTPUT_SHORT, "31 bytes are too few");
+    check(kaungimewe_frame_again(&desk[3], 1, 2, out, 31).refusal == KAUNGIMEWE_OUTPUT_SHORT, "31 bytes are too few");
     check(out[0] == 0x77, "a refusal writes nothing");
-    check(kaungimewe_frame_again(KAUNGIMEWE_LENT_WITH_BOXES(desk[3]), 1, 2, out, sizeof out).size == 32, "frame again answers its size");
+    check(kaungimewe_frame_again(&desk[3], 1, 2, out, sizeof out).size == 32, "frame again answers its size");
     check(memcmp(out, f12.bytes, 32) == 0 && out[32] == 0x77, "frame again writes the frame and no more");
 
     kaungimewe_read_answer r = kaungimewe_read(out, 32);
@@ -137,6 +189,8 @@ static void check_false_stamp(frame f11)
 int main(void)
 {
     new_desks();
+    refuse_mark(1, 1500, 22, KAUNGIMEWE_OUTPUT_SHORT);
+    refuse_mark(1, 1000, KAUNGIMEWE_LARGEST_FRAME, KAUNGIMEWE_FIELD_RANGE);
     frame f11 = mark(1, 1, 23), f21 = mark(2, 1, 23), f31 = mark(3, 1, 23), f32 = mark(3, 2, 26);
     receive(1, f21, KAUNGIMEWE_EXECUTED, 1, 0);
     receive(1, f31, KAUNGIMEWE_EXECUTED, 1, 0);
@@ -159,8 +213,10 @@ int main(void)
     for (int i = 0; i < 5; i++) {
         receive(3, others[i], KAUNGIMEWE_EXECUTED, 1, 0);
     }
+    check_rows();
     check_relations();
     check_apart();
+    check_first_apart();
     check_frames(f12);
     check_false_stamp(f11);
     printf("%u passed, %u failed\n", passed, failed);

@@ -7,13 +7,14 @@
  * Three rules for a host:
  * - A desk comes only from kaungimewe_new and the calls below. Never alter one by hand: all that is proved of the
  *   calls supposes this and nothing else. Reading a desk's members is fine.
- * - A desk goes by value: keep the one in the answer in place of the one that was given. After a refusal it is the
- *   same desk. Two copies of one desk must not both make marks: their marks would share names.
+ * - The calls work on the desk in place; a refusal leaves it as it was. A desk may be moved, but no copy of it may make
+ *   marks beside it: their marks would share names.
  * - No pointer is NULL, also where its length is 0. What a call writes to overlaps nothing else that it is lent.
  *
- * A desk has 29,464 bytes; a call copies it to the stack a few times and follows up to 512 marks there, which took
- * under 400 KiB when measured: give a thread that makes calls 1 MiB. No call allocates, blocks, or keeps anything
- * between calls; every call may be made from any thread.
+ * A desk has 30,520 bytes; only kaungimewe_new gives one by value and took 60 KiB of stack when measured. Apart took
+ * under 5 KiB, every other call under 1 KiB (host/stack.c measures them). No call allocates, blocks, or keeps anything
+ * between calls. Every call may be made from any thread; while one thread marks or receives at a desk, no other may use
+ * that desk.
  *
  * Link with target/staticlib/libabi.a, which `rt staticlib abi` proves and writes.
  */
@@ -64,23 +65,25 @@ typedef struct {
     uint32_t start, end, low, high;
 } kaungimewe_box;
 
-/* A waiting mark. row[d - 1] is the number that its stamp names of desk d, 0 where it names none. */
+/* The name of a mark: desk.number. */
 typedef struct {
     uint8_t desk;
     uint16_t number;
-    kaungimewe_box extent;
-    uint16_t row[KAUNGIMEWE_DESKS];
-} kaungimewe_held;
+} kaungimewe_mark_id;
 
-/* The waiting marks, in order of arrival: the first `count` of `held`. */
+/* The waiting marks in order of arrival: the first `count` of each array, laid out as those of a desk. */
 typedef struct {
     size_t count;
-    kaungimewe_held held[KAUNGIMEWE_WAITING_PLACES];
+    uint8_t desks[KAUNGIMEWE_WAITING_PLACES];
+    uint16_t numbers[KAUNGIMEWE_WAITING_PLACES];
+    uint32_t boxes[KAUNGIMEWE_WAITING_PLACES * 4];
+    uint16_t stamps[KAUNGIMEWE_WAITING_PLACES * KAUNGIMEWE_DESKS];
 } kaungimewe_waiting;
 
-/* A desk: its executed marks by place (the first `count` of each array) and its waiting ones.
- * boxes[4 * p] .. boxes[4 * p + 3] are start, end, low and high of the mark at place p; stamps[16 * p + d - 1] is the
- * number that its stamp names of desk d, 0 where it names none. */
+/* A desk: its executed marks by place (the first `count` of desks, numbers, boxes, stamps and before) and its waiting
+ * ones. boxes[4 * p] .. boxes[4 * p + 3] are start, end, low and high of the mark at place p; stamps[16 * p + d - 1] is
+ * the number that its stamp names of desk d, 0 where it names none.
+ * What follows from the executed marks is kept beside them: tally, heads, last and before. */
 typedef struct {
     uint8_t own;
     size_t count;
@@ -88,6 +91,10 @@ typedef struct {
     uint16_t numbers[KAUNGIMEWE_PLACES];
     uint32_t boxes[KAUNGIMEWE_PLACES * 4];
     uint16_t stamps[KAUNGIMEWE_PLACES * KAUNGIMEWE_DESKS];
+    uint16_t tally[KAUNGIMEWE_DESKS];   /* tally[d - 1]: how many marks of desk d are executed */
+    uint16_t heads[KAUNGIMEWE_DESKS];   /* heads[d - 1]: the number of desk d's last mark if it is a head, else 0 */
+    uint16_t last[KAUNGIMEWE_DESKS];    /* last[d - 1]: the place + 1 of desk d's last mark, 0 if none */
+    uint16_t before[KAUNGIMEWE_PLACES]; /* before[p]: the place + 1 of the previous mark of the same desk, 0 if none */
     kaungimewe_waiting queue;
 } kaungimewe_desk;
 
@@ -99,14 +106,12 @@ typedef struct {
 } kaungimewe_new_answer;
 
 typedef struct {
-    kaungimewe_desk desk;
     uint8_t refusal;
     uint16_t number; /* of the new mark */
     size_t size;     /* of its frame */
 } kaungimewe_mark_answer;
 
 typedef struct {
-    kaungimewe_desk desk;
     uint8_t refusal;
     uint8_t kind;      /* KAUNGIMEWE_KNOWN, KAUNGIMEWE_WAITS or KAUNGIMEWE_EXECUTED */
     uint16_t executed; /* marks executed by the call, released ones among them */
@@ -120,9 +125,7 @@ typedef struct {
 
 typedef struct {
     uint8_t refusal;
-    size_t count;
-    uint8_t desks[KAUNGIMEWE_PLACES]; /* the marks apart, by place: desks[i].numbers[i] for i < count */
-    uint16_t numbers[KAUNGIMEWE_PLACES];
+    size_t count; /* of the marks apart */
 } kaungimewe_apart_answer;
 
 typedef struct {
@@ -143,42 +146,94 @@ typedef struct {
     size_t entries_size; /* the entries are frame[23] .. frame[23 + entries_size - 1] */
 } kaungimewe_read_answer;
 
+/* The exports whose names end in _lent are inner ones: lent the members of a desk by the functions below. Do not call
+ * them by hand. They ask that all they are lent is of one desk that the calls gave. */
+kaungimewe_mark_answer kaungimewe_mark_lent(uint8_t own, size_t *count, uint8_t *desks, uint16_t *numbers,
+                                            uint32_t *boxes, uint16_t *stamps, uint16_t *tally, uint16_t *heads,
+                                            uint16_t *last, uint16_t *before, size_t waiting, uint32_t start,
+                                            uint32_t end, uint32_t low, uint32_t high, uint8_t *out, size_t lent);
+
+kaungimewe_receive_answer kaungimewe_receive_lent(uint8_t own, size_t *count, uint8_t *desks, uint16_t *numbers,
+                                                  uint32_t *boxes, uint16_t *stamps, uint16_t *tally, uint16_t *heads,
+                                                  uint16_t *last, uint16_t *before, size_t *waiting, uint8_t *wdesks,
+                                                  uint16_t *wnumbers, uint32_t *wboxes, uint16_t *wstamps,
+                                                  const uint8_t *frame, size_t size);
+
+kaungimewe_relate_answer kaungimewe_relate_lent(const uint8_t *desks, const uint16_t *numbers, const uint16_t *stamps,
+                                                const uint16_t *tally, const uint16_t *last, const uint16_t *before,
+                                                uint8_t a_desk, uint16_t a_number, uint8_t b_desk, uint16_t b_number);
+
+kaungimewe_apart_answer kaungimewe_apart_lent(const uint8_t *desks, const uint16_t *numbers, const uint16_t *stamps,
+                                              size_t count, const uint16_t *tally, const uint16_t *last,
+                                              const uint16_t *before, uint8_t a_desk, uint16_t a_number,
+                                              kaungimewe_mark_id *out, size_t room);
+
+kaungimewe_first_answer kaungimewe_first_apart_lent(const uint8_t *desks, const uint16_t *numbers,
+                                                    const uint16_t *stamps, const uint16_t *tally, const uint16_t *last,
+                                                    const uint16_t *before, uint8_t a_desk, uint16_t a_number,
+                                                    uint8_t desk);
+
+kaungimewe_write_answer kaungimewe_frame_again_lent(const uint8_t *desks, const uint16_t *numbers,
+                                                    const uint32_t *boxes, const uint16_t *stamps,
+                                                    const uint16_t *tally, const uint16_t *last, const uint16_t *before,
+                                                    uint8_t a_desk, uint16_t a_number, uint8_t *out, size_t lent);
+
 /* New: an empty desk. Refuses with 1, and then gives an empty desk 1. */
 kaungimewe_new_answer kaungimewe_new(uint8_t own);
 
 /* Mark: the box becomes this desk's next mark, stamped with the heads and executed; its frame is written to the first
  * `size` of the `lent` bytes at `out`, later bytes keep their values. Refuses with 5 (box), 9, 13. */
-kaungimewe_mark_answer kaungimewe_mark(kaungimewe_desk desk, uint32_t start, uint32_t end, uint32_t low, uint32_t high,
-                                       uint8_t *out, size_t lent);
+static inline kaungimewe_mark_answer kaungimewe_mark(kaungimewe_desk *desk, uint32_t start, uint32_t end, uint32_t low,
+                                                     uint32_t high, uint8_t *out, size_t lent)
+{
+    return kaungimewe_mark_lent(desk->own, &desk->count, desk->desks, desk->numbers, desk->boxes, desk->stamps,
+                                desk->tally, desk->heads, desk->last, desk->before, desk->queue.count, start, end, low,
+                                high, out, lent);
+}
 
 /* Receive: the frame's mark is known, set waiting, or executed; after an executed mark the ready waiting ones are
  * released. Refuses with 2 to 11. */
-kaungimewe_receive_answer kaungimewe_receive(kaungimewe_desk desk, const uint8_t *frame, size_t size);
-
-/* The queries are lent a desk's arrays, so that nothing is copied: kaungimewe_relate(KAUNGIMEWE_LENT(desk), 1, 2, 3, 1).
- * They ask that these are the arrays and the count of one desk that the calls gave. */
-#define KAUNGIMEWE_LENT(desk) (desk).desks, (desk).numbers, (desk).stamps, (desk).count
-#define KAUNGIMEWE_LENT_WITH_BOXES(desk) (desk).desks, (desk).numbers, (desk).boxes, (desk).stamps, (desk).count
+static inline kaungimewe_receive_answer kaungimewe_receive(kaungimewe_desk *desk, const uint8_t *frame, size_t size)
+{
+    kaungimewe_waiting *queue = &desk->queue;
+    return kaungimewe_receive_lent(desk->own, &desk->count, desk->desks, desk->numbers, desk->boxes, desk->stamps,
+                                   desk->tally, desk->heads, desk->last, desk->before, &queue->count, queue->desks,
+                                   queue->numbers, queue->boxes, queue->stamps, frame, size);
+}
 
 /* Relate: which of two executed marks was made in knowledge of the other. Refuses with 12. */
-kaungimewe_relate_answer kaungimewe_relate(const uint8_t *desks, const uint16_t *numbers, const uint16_t *stamps,
-                                           size_t count, uint8_t a_desk, uint16_t a_number, uint8_t b_desk,
-                                           uint16_t b_number);
+static inline kaungimewe_relate_answer kaungimewe_relate(const kaungimewe_desk *desk, uint8_t a_desk, uint16_t a_number,
+                                                         uint8_t b_desk, uint16_t b_number)
+{
+    return kaungimewe_relate_lent(desk->desks, desk->numbers, desk->stamps, desk->tally, desk->last, desk->before,
+                                  a_desk, a_number, b_desk, b_number);
+}
 
-/* Apart: the executed marks concurrent with a given one. Refuses with 12, and with 13 if there are more than `room`. */
-kaungimewe_apart_answer kaungimewe_apart(const uint8_t *desks, const uint16_t *numbers, const uint16_t *stamps,
-                                         size_t count, uint8_t a_desk, uint16_t a_number, size_t room);
+/* Apart: the executed marks concurrent with a given one, by place, written to the first `count` of the `room` names at
+ * `out`; later ones keep their values. Refuses with 12, 13. */
+static inline kaungimewe_apart_answer kaungimewe_apart(const kaungimewe_desk *desk, uint8_t a_desk, uint16_t a_number,
+                                                       kaungimewe_mark_id *out, size_t room)
+{
+    return kaungimewe_apart_lent(desk->desks, desk->numbers, desk->stamps, desk->count, desk->tally, desk->last,
+                                 desk->before, a_desk, a_number, out, room);
+}
 
-/* First apart: the lowest number of the marks of `desk` that were executed here before the given mark and are
+/* First apart: the lowest number of the marks of desk `of` that were executed here before the given mark and are
  * concurrent with it. Refuses with 1, 12. */
-kaungimewe_first_answer kaungimewe_first_apart(const uint8_t *desks, const uint16_t *numbers, const uint16_t *stamps,
-                                               size_t count, uint8_t a_desk, uint16_t a_number, uint8_t desk);
+static inline kaungimewe_first_answer kaungimewe_first_apart(const kaungimewe_desk *desk, uint8_t a_desk,
+                                                             uint16_t a_number, uint8_t of)
+{
+    return kaungimewe_first_apart_lent(desk->desks, desk->numbers, desk->stamps, desk->tally, desk->last, desk->before,
+                                       a_desk, a_number, of);
+}
 
-/* Frame again: the frame of an executed mark, written as by kaungimewe_write; lend with KAUNGIMEWE_LENT_WITH_BOXES.
- * Refuses with 12, 13. */
-kaungimewe_write_answer kaungimewe_frame_again(const uint8_t *desks, const uint16_t *numbers, const uint32_t *boxes,
-                                               const uint16_t *stamps, size_t count, uint8_t a_desk, uint16_t a_number,
-                                               uint8_t *out, size_t lent);
+/* Frame again: the frame of an executed mark, written as by kaungimewe_write. Refuses with 12, 13. */
+static inline kaungimewe_write_answer kaungimewe_frame_again(const kaungimewe_desk *desk, uint8_t a_desk,
+                                                             uint16_t a_number, uint8_t *out, size_t lent)
+{
+    return kaungimewe_frame_again_lent(desk->desks, desk->numbers, desk->boxes, desk->stamps, desk->tally, desk->last,
+                                       desk->before, a_desk, a_number, out, lent);
+}
 
 /* The writer: fields and entries (three bytes each: desk, number big-endian) become a frame in the first `size` of the
  * `lent` bytes at `out`; later bytes keep their values. Refuses with 4, 5, 6, 13. */

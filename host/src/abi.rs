@@ -1,5 +1,5 @@
 //! The exported functions of the proved crate `abi`, declared again for Rust as `include/kaungimewe.h` has them.
-use crate::MarkBox;
+use crate::{MarkBox, MarkId};
 
 /// Desks are numbered 1 to so many; a row has a count for each.
 pub(crate) const DESKS: usize = 16;
@@ -14,23 +14,17 @@ pub(crate) const WAITING: usize = 64;
 pub(crate) const BOX: usize = 4;
 
 #[repr(C)]
-#[derive(Clone, Copy, PartialEq, Eq)]
-pub(crate) struct Held {
-    pub desk: u8,
-    pub number: u16,
-    pub extent: MarkBox,
-    pub row: [u16; DESKS],
-}
-
-#[repr(C)]
-#[derive(Clone, Copy, PartialEq, Eq)]
+#[derive(Clone, PartialEq, Eq)]
 pub(crate) struct Waiting {
     pub count: usize,
-    pub held: [Held; WAITING],
+    pub desks: [u8; WAITING],
+    pub numbers: [u16; WAITING],
+    pub boxes: [u32; WAITING * BOX],
+    pub stamps: [u16; WAITING * DESKS],
 }
 
 #[repr(C)]
-#[derive(Clone, Copy, PartialEq, Eq)]
+#[derive(Clone, PartialEq, Eq)]
 pub(crate) struct Desk {
     pub own: u8,
     pub count: usize,
@@ -38,10 +32,15 @@ pub(crate) struct Desk {
     pub numbers: [u16; PLACES],
     pub boxes: [u32; PLACES * BOX],
     pub stamps: [u16; PLACES * DESKS],
+    pub tally: [u16; DESKS],
+    pub heads: [u16; DESKS],
+    pub last: [u16; DESKS],
+    pub before: [u16; PLACES],
     pub queue: Waiting,
 }
 
-const _: () = assert!(size_of::<MarkBox>() == 16 && size_of::<Held>() == 52 && size_of::<Desk>() == 29464);
+const _: () = assert!(size_of::<MarkBox>() == 16 && size_of::<MarkId>() == 4);
+const _: () = assert!(size_of::<Waiting>() == 3272 && size_of::<Desk>() == 30520);
 
 #[repr(C)]
 pub(crate) struct NewAnswer {
@@ -51,7 +50,6 @@ pub(crate) struct NewAnswer {
 
 #[repr(C)]
 pub(crate) struct MarkAnswer {
-    pub desk: Desk,
     pub refusal: u8,
     pub number: u16,
     pub size: usize,
@@ -59,7 +57,6 @@ pub(crate) struct MarkAnswer {
 
 #[repr(C)]
 pub(crate) struct ReceiveAnswer {
-    pub desk: Desk,
     pub refusal: u8,
     pub kind: u8,
     pub executed: u16,
@@ -76,8 +73,6 @@ pub(crate) struct RelateAnswer {
 pub(crate) struct ApartAnswer {
     pub refusal: u8,
     pub count: usize,
-    pub desks: [u8; PLACES],
-    pub numbers: [u16; PLACES],
 }
 
 #[repr(C)]
@@ -101,13 +96,23 @@ pub(crate) struct ReadAnswer {
     pub entries_size: usize,
 }
 
-// What each call asks of its caller: a desk, or its arrays and count, as New and the calls gave them; pointers that are
-// good for so many bytes.
+// What each call asks of its caller: that all it is lent of a desk is of one desk as New and the calls gave it, and that
+// a pointer is good for so many bytes or names.
 extern "C" {
     pub(crate) fn kaungimewe_new(own: u8) -> NewAnswer;
 
-    pub(crate) fn kaungimewe_mark(
-        desk: Desk,
+    pub(crate) fn kaungimewe_mark_lent(
+        own: u8,
+        count: &mut usize,
+        desks: &mut [u8; PLACES],
+        numbers: &mut [u16; PLACES],
+        boxes: &mut [u32; PLACES * BOX],
+        stamps: &mut [u16; PLACES * DESKS],
+        tally: &mut [u16; DESKS],
+        heads: &mut [u16; DESKS],
+        last: &mut [u16; DESKS],
+        before: &mut [u16; PLACES],
+        waiting: usize,
         start: u32,
         end: u32,
         low: u32,
@@ -116,45 +121,73 @@ extern "C" {
         lent: usize,
     ) -> MarkAnswer;
 
-    pub(crate) fn kaungimewe_receive(desk: Desk, frame: *const u8, size: usize) -> ReceiveAnswer;
+    pub(crate) fn kaungimewe_receive_lent(
+        own: u8,
+        count: &mut usize,
+        desks: &mut [u8; PLACES],
+        numbers: &mut [u16; PLACES],
+        boxes: &mut [u32; PLACES * BOX],
+        stamps: &mut [u16; PLACES * DESKS],
+        tally: &mut [u16; DESKS],
+        heads: &mut [u16; DESKS],
+        last: &mut [u16; DESKS],
+        before: &mut [u16; PLACES],
+        waiting: &mut usize,
+        wdesks: &mut [u8; WAITING],
+        wnumbers: &mut [u16; WAITING],
+        wboxes: &mut [u32; WAITING * BOX],
+        wstamps: &mut [u16; WAITING * DESKS],
+        frame: *const u8,
+        size: usize,
+    ) -> ReceiveAnswer;
 
-    pub(crate) fn kaungimewe_relate(
+    pub(crate) fn kaungimewe_relate_lent(
         desks: &[u8; PLACES],
         numbers: &[u16; PLACES],
         stamps: &[u16; PLACES * DESKS],
-        count: usize,
+        tally: &[u16; DESKS],
+        last: &[u16; DESKS],
+        before: &[u16; PLACES],
         a_desk: u8,
         a_number: u16,
         b_desk: u8,
         b_number: u16,
     ) -> RelateAnswer;
 
-    pub(crate) fn kaungimewe_apart(
+    pub(crate) fn kaungimewe_apart_lent(
         desks: &[u8; PLACES],
         numbers: &[u16; PLACES],
         stamps: &[u16; PLACES * DESKS],
         count: usize,
+        tally: &[u16; DESKS],
+        last: &[u16; DESKS],
+        before: &[u16; PLACES],
         a_desk: u8,
         a_number: u16,
+        out: *mut MarkId,
         room: usize,
     ) -> ApartAnswer;
 
-    pub(crate) fn kaungimewe_first_apart(
+    pub(crate) fn kaungimewe_first_apart_lent(
         desks: &[u8; PLACES],
         numbers: &[u16; PLACES],
         stamps: &[u16; PLACES * DESKS],
-        count: usize,
+        tally: &[u16; DESKS],
+        last: &[u16; DESKS],
+        before: &[u16; PLACES],
         a_desk: u8,
         a_number: u16,
         desk: u8,
     ) -> FirstAnswer;
 
-    pub(crate) fn kaungimewe_frame_again(
+    pub(crate) fn kaungimewe_frame_again_lent(
         desks: &[u8; PLACES],
         numbers: &[u16; PLACES],
         boxes: &[u32; PLACES * BOX],
         stamps: &[u16; PLACES * DESKS],
-        count: usize,
+        tally: &[u16; DESKS],
+        last: &[u16; DESKS],
+        before: &[u16; PLACES],
         a_desk: u8,
         a_number: u16,
         out: *mut u8,

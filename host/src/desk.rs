@@ -9,7 +9,8 @@ use crate::{Mark, MarkBox, MarkId, Marked, Reception, Refusal, Relation};
 /// Every call is the proved engine's. A desk comes only from [`Desk::new`] and the calls; it can be neither copied nor
 /// altered otherwise, so what is proved of the calls holds of every value of this type.
 ///
-/// A call needs some 400 KiB of stack; Rust's threads have 2 MiB if not told otherwise.
+/// The calls work on the desk in place and need under 5 KiB of stack; [`Desk::new`] needs room for a few copies of a
+/// desk's 30 KiB.
 pub struct Desk {
     raw: Box<abi::Desk>,
 }
@@ -35,9 +36,30 @@ impl Desk {
     /// first of the lent bytes; later bytes keep their values. Refuses with 5, 9 and 13.
     pub fn mark(&mut self, extent: MarkBox, out: &mut [u8]) -> Result<Marked, Refusal> {
         let MarkBox { start, end, low, high } = extent;
-        // SAFETY: the desk came from the calls; the pointer is good for the lent length.
-        let answer = unsafe { abi::kaungimewe_mark(*self.raw, start, end, low, high, out.as_mut_ptr(), out.len()) };
-        *self.raw = answer.desk;
+        let abi::Desk { own, count, desks, numbers, boxes, stamps, tally, heads, last, before, queue } = &mut *self.raw;
+        // SAFETY: all that is lent is of one desk that came from the calls; the pointer is good for the lent length,
+        // and `out` overlaps nothing.
+        let answer = unsafe {
+            abi::kaungimewe_mark_lent(
+                *own,
+                count,
+                desks,
+                numbers,
+                boxes,
+                stamps,
+                tally,
+                heads,
+                last,
+                before,
+                queue.count,
+                start,
+                end,
+                low,
+                high,
+                out.as_mut_ptr(),
+                out.len(),
+            )
+        };
         Refusal::check(answer.refusal)?;
         Ok(Marked { number: answer.number, size: answer.size })
     }
@@ -45,9 +67,7 @@ impl Desk {
     /// Receive: the frame's mark is known, set waiting or executed; an executed mark releases the waiting ones that
     /// have become ready. Refuses with 2 to 11.
     pub fn receive(&mut self, frame: &[u8]) -> Result<Reception, Refusal> {
-        // SAFETY: the desk came from the calls; the pointer is good for the frame's length.
-        let answer = unsafe { abi::kaungimewe_receive(*self.raw, frame.as_ptr(), frame.len()) };
-        *self.raw = answer.desk;
+        let answer = self.receive_lent(frame);
         Refusal::check(answer.refusal)?;
         Ok(match answer.kind {
             1 => Reception::Known,
@@ -56,12 +76,38 @@ impl Desk {
         })
     }
 
+    fn receive_lent(&mut self, frame: &[u8]) -> abi::ReceiveAnswer {
+        let abi::Desk { own, count, desks, numbers, boxes, stamps, tally, heads, last, before, queue } = &mut *self.raw;
+        // SAFETY: all that is lent is of one desk that came from the calls; the pointer is good for the frame's length.
+        unsafe {
+            abi::kaungimewe_receive_lent(
+                *own,
+                count,
+                desks,
+                numbers,
+                boxes,
+                stamps,
+                tally,
+                heads,
+                last,
+                before,
+                &mut queue.count,
+                &mut queue.desks,
+                &mut queue.numbers,
+                &mut queue.boxes,
+                &mut queue.stamps,
+                frame.as_ptr(),
+                frame.len(),
+            )
+        }
+    }
+
     /// Relate: which of two executed marks was made in knowledge of the other. Refuses with 12.
     pub fn relate(&self, a: MarkId, b: MarkId) -> Result<Relation, Refusal> {
-        let abi::Desk { desks, numbers, stamps, count, .. } = &*self.raw;
-        // SAFETY: the arrays and their count are those of a desk that came from the calls.
-        let answer =
-            unsafe { abi::kaungimewe_relate(desks, numbers, stamps, *count, a.desk, a.number, b.desk, b.number) };
+        let abi::Desk { desks, numbers, stamps, tally, last, before, .. } = &*self.raw;
+        let ((a, n), (b, m)) = ((a.desk, a.number), (b.desk, b.number));
+        // SAFETY: all that is lent is of one desk that came from the calls.
+        let answer = unsafe { abi::kaungimewe_relate_lent(desks, numbers, stamps, tally, last, before, a, n, b, m) };
         Refusal::check(answer.refusal)?;
         Ok(match answer.relation {
             1 => Relation::Same,
@@ -74,22 +120,25 @@ impl Desk {
     /// Apart: the executed marks concurrent with a given one, by place, to the first of the lent names; later ones keep
     /// their values. Answers their count. Refuses with 12 and 13.
     pub fn apart(&self, a: MarkId, out: &mut [MarkId]) -> Result<usize, Refusal> {
-        let abi::Desk { desks, numbers, stamps, count, .. } = &*self.raw;
-        // SAFETY: the arrays and their count are those of a desk that came from the calls.
-        let answer = unsafe { abi::kaungimewe_apart(desks, numbers, stamps, *count, a.desk, a.number, out.len()) };
+        let abi::Desk { count, desks, numbers, stamps, tally, last, before, .. } = &*self.raw;
+        let ((a, n), (lent, room)) = ((a.desk, a.number), (out.as_mut_ptr(), out.len()));
+        // SAFETY: all that is lent is of one desk that came from the calls; the pointer is good for the lent names, and
+        // `out` overlaps nothing.
+        let answer = unsafe {
+            abi::kaungimewe_apart_lent(desks, numbers, stamps, *count, tally, last, before, a, n, lent, room)
+        };
         Refusal::check(answer.refusal)?;
-        for (i, name) in out[..answer.count].iter_mut().enumerate() {
-            *name = MarkId::new(answer.desks[i], answer.numbers[i]);
-        }
         Ok(answer.count)
     }
 
     /// First apart: the lowest number of that desk's marks executed here before the mark and concurrent with it; 0 if
     /// none. Refuses with 1 and 12.
     pub fn first_apart(&self, a: MarkId, desk: u8) -> Result<u16, Refusal> {
-        let abi::Desk { desks, numbers, stamps, count, .. } = &*self.raw;
-        // SAFETY: the arrays and their count are those of a desk that came from the calls.
-        let answer = unsafe { abi::kaungimewe_first_apart(desks, numbers, stamps, *count, a.desk, a.number, desk) };
+        let abi::Desk { desks, numbers, stamps, tally, last, before, .. } = &*self.raw;
+        let (a, n) = (a.desk, a.number);
+        // SAFETY: all that is lent is of one desk that came from the calls.
+        let answer =
+            unsafe { abi::kaungimewe_first_apart_lent(desks, numbers, stamps, tally, last, before, a, n, desk) };
         Refusal::check(answer.refusal)?;
         Ok(answer.number)
     }
@@ -97,12 +146,13 @@ impl Desk {
     /// Frame again: the frame of an executed mark, to the first of the lent bytes; later bytes keep their values.
     /// Answers its size. Refuses with 12 and 13.
     pub fn frame_again(&self, a: MarkId, out: &mut [u8]) -> Result<usize, Refusal> {
-        let abi::Desk { desks, numbers, boxes, stamps, count, .. } = &*self.raw;
-        let (lent, room) = (out.as_mut_ptr(), out.len());
-        // SAFETY: the arrays and their count are those of a desk that came from the calls; the pointer is good for the
-        // lent length, and `out` overlaps nothing.
-        let answer =
-            unsafe { abi::kaungimewe_frame_again(desks, numbers, boxes, stamps, *count, a.desk, a.number, lent, room) };
+        let abi::Desk { desks, numbers, boxes, stamps, tally, last, before, .. } = &*self.raw;
+        let ((a, n), (lent, room)) = ((a.desk, a.number), (out.as_mut_ptr(), out.len()));
+        // SAFETY: all that is lent is of one desk that came from the calls; the pointer is good for the lent length,
+        // and `out` overlaps nothing.
+        let answer = unsafe {
+            abi::kaungimewe_frame_again_lent(desks, numbers, boxes, stamps, tally, last, before, a, n, lent, room)
+        };
         Refusal::check(answer.refusal)?;
         Ok(answer.size)
     }
@@ -119,32 +169,29 @@ impl Desk {
 
     /// The executed marks, by place.
     pub fn executed(&self) -> Vec<Mark> {
-        (0..self.raw.count).map(|place| self.mark_at(place)).collect()
+        let abi::Desk { desks, numbers, boxes, stamps, .. } = &*self.raw;
+        (0..self.raw.count).map(|place| mark_at(desks, numbers, boxes, stamps, place)).collect()
     }
 
     /// The waiting marks, in order of arrival.
     pub fn waiting(&self) -> Vec<Mark> {
-        let queue = &self.raw.queue;
-        let marks = queue.held[..queue.count].iter();
-        marks.map(|h| mark_of(MarkId::new(h.desk, h.number), h.extent, &h.row)).collect()
+        let abi::Waiting { count, desks, numbers, boxes, stamps } = &self.raw.queue;
+        (0..*count).map(|place| mark_at(desks, numbers, boxes, stamps, place)).collect()
     }
 
     /// What the desk is now, to compare with later.
     pub fn snapshot(&self) -> Snapshot {
         Snapshot { raw: self.raw.clone() }
     }
-
-    fn mark_at(&self, place: usize) -> Mark {
-        let raw = &self.raw;
-        let id = MarkId::new(raw.desks[place], raw.numbers[place]);
-        let values = &raw.boxes[place * abi::BOX..][..abi::BOX];
-        let extent = MarkBox::new(values[0], values[1], values[2], values[3]);
-        mark_of(id, extent, &raw.stamps[place * abi::DESKS..][..abi::DESKS])
-    }
 }
 
-/// The mark whose stamp is given as a row: at index d − 1 the number that it names of desk d, or 0.
-fn mark_of(id: MarkId, extent: MarkBox, row: &[u16]) -> Mark {
+/// The mark at a place of the executed marks' arrays, or of the waiting ones'. Its stamp is a row: at index d − 1 the
+/// number that it names of desk d, or 0.
+fn mark_at(desks: &[u8], numbers: &[u16], boxes: &[u32], stamps: &[u16], place: usize) -> Mark {
+    let id = MarkId::new(desks[place], numbers[place]);
+    let values = &boxes[place * abi::BOX..][..abi::BOX];
+    let extent = MarkBox::new(values[0], values[1], values[2], values[3]);
+    let row = &stamps[place * abi::DESKS..][..abi::DESKS];
     let entries = (1..).zip(row).filter(|(_, &number)| number > 0);
     let stamp = entries.map(|(desk, &number)| MarkId::new(desk, number)).collect();
     Mark { id, extent, stamp }

@@ -2,6 +2,7 @@
 use std::fmt;
 
 /// The name of a mark: d.n is the n-th mark made at desk d.
+#[repr(C)]
 #[derive(Clone, Copy, Debug, Default, PartialEq, Eq, PartialOrd, Ord, Hash)]
 pub struct MarkId {
     /// The desk at which the mark was made, 1 to 16.

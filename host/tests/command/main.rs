@@ -4,6 +4,9 @@ use std::process::{Command, Output, Stdio};
 
 const EXAMPLES: &str = concat!(env!("CARGO_MANIFEST_DIR"), "/../examples");
 
+/// The calls that the benchmark times and bounds.
+const TIMED: [&str; 7] = ["Receive", "Mark", "Relate, all pairs", "Apart", "First apart", "Frame again", "Junk frame"];
+
 /// Runs the tool in the folder of examples, with a script on standard input.
 fn tool(words: &[&str], script: &str) -> Output {
     let mut command = Command::new(env!("CARGO_BIN_EXE_kaungimewe"));
@@ -81,6 +84,7 @@ fn wrong_commands_are_told() {
         &["draw", "--apart"],
         &["draw", "--apart", "9.9", "paper.txt"],
         &["bench", "--rounds", "many"],
+        &["bench", "--check", "--fly"],
         &[],
     ] {
         let output = tool(words, "");
@@ -91,7 +95,10 @@ fn wrong_commands_are_told() {
 
 #[test]
 fn help_names_every_call_and_refusal() {
-    assert!(printed(&["--help"], "").contains("./kaungimewe run"));
+    let tool = printed(&["--help"], "");
+    for command in ["run [--explain]", "draw [--apart A.N]", "bench [--check]"] {
+        assert!(tool.contains(&format!("./kaungimewe {command}")), "{command}");
+    }
     let help = printed(&["run", "--help"], "");
     let calls =
         ["new", "mark", "receive", "hand", "relate", "apart", "first", "frame", "list", "held", "read", "write"];
@@ -117,7 +124,21 @@ fn the_picture_of_the_scenario() {
 #[test]
 fn the_benchmark_reports() {
     let report = printed(&["bench", "--rounds", "1"], "");
-    for word in ["Receive", "Mark", "Relate, all pairs", "Apart", "First apart", "Bytes on the wire", "Bounds"] {
+    for word in TIMED.iter().chain(&["Bytes on the wire", "Bounds"]) {
         assert!(report.contains(word), "{word}");
     }
+    assert!(printed(&["bench", "--help"], "").contains("--check"));
+}
+
+#[test]
+fn the_benchmark_checks_its_bounds() {
+    let output = tool(&["bench", "--check", "--rounds", "1"], "");
+    let lines: Vec<&str> = text(&output.stdout).lines().collect();
+    assert_eq!(lines.len(), TIMED.len(), "a line for each bound");
+    for (line, call) in lines.iter().zip(TIMED) {
+        assert!(line.starts_with(&format!("  {call} ")) && line.contains("at most"), "{line}");
+        assert!(line.ends_with(": held") || line.ends_with(": missed"), "{line}");
+    }
+    let missed = lines.iter().any(|line| line.ends_with(": missed"));
+    assert_eq!((text(&output.stderr), output.status.code()), ("", Some(missed.into())));
 }

@@ -3,13 +3,13 @@
 pub const TOOL: &str = "\
 kaungimewe: desks of the proved causality engine, at a terminal
 
-  ./kaungimewe run [--explain] [FILE]              a script of calls, one answer a line
-  ./kaungimewe draw [--apart A.N] [FILE] > SVG     the same script as a picture
-  ./kaungimewe bench [--rounds N] [--seed S]       the engine's times beside those of two others
+  ./kaungimewe run [--explain] [FILE]                    a script of calls, one answer a line
+  ./kaungimewe draw [--apart A.N] [FILE] > SVG           the same script as a picture
+  ./kaungimewe bench [--check] [--rounds N] [--seed S]   the engine's times beside those of two others
 
 FILE is a script; without it, or with -, the script is read from standard input.
 `./kaungimewe run --help` says what a script is, `draw --help` and `bench --help` what they show.
-Exit status: 0, or 2 where the command or a line of the script is wrong.
+Exit status: 0; 1 where `bench --check` finds a bound missed; 2 where the command or a line of the script is wrong.
 ";
 
 pub const RUN: &str = "\
@@ -58,12 +58,17 @@ broken lines. Point at a box for its times, frequencies and stamp.
 ";
 
 pub const BENCH: &str = "\
-./kaungimewe bench [--rounds N] [--seed S]
+./kaungimewe bench [--check] [--rounds N] [--seed S]
 
 Makes one history (500 marks, 16 desks) by a seeded generator, and takes every call through it with the proved engine and
 with two others in the same run:
-  (a) the same plan in plain Rust, by reference, with full counts kept per mark;
+  (a) the same plan in plain Rust, by reference, with full counts kept per mark and, for Relate, an index of names;
   (b) a BTreeMap vector clock for each mark, looked up by name and compared by partial_cmp.
-Prints medians of N rounds (5 if left out) as times a call and as ratios, their growth from 125 to 250 to 500 marks, and the
-bytes on the wire beside full counts. Times depend on the machine and its load; the ratios are taken in one run.
+A junk frame is one that Receive refuses with 2 to 6. It and Frame again are left out for (b), whose frames are others.
+Prints medians of N rounds (5 if left out) as times a call and as ratios, their growth from 125 to 250 to 500 marks, the
+bytes on the wire beside full counts, and the bounds. Times depend on the machine and its load; the ratios are taken in
+one run.
+
+With --check it measures three times and prints the bounds alone: for each the median of its three ratios, the bound, and
+`held` or `missed`. Exit status 1 where one is missed.
 ";

@@ -17,7 +17,8 @@ fn main() -> ExitCode {
     let words: Vec<String> = std::env::args_os().skip(1).map(|word| word.to_string_lossy().into_owned()).collect();
     let words: Vec<&str> = words.iter().map(String::as_str).collect();
     match command(&words) {
-        Ok(()) => ExitCode::SUCCESS,
+        Ok(true) => ExitCode::SUCCESS,
+        Ok(false) => ExitCode::FAILURE,
         Err(wrong) => {
             eprintln!("{wrong}");
             ExitCode::from(2)
@@ -25,15 +26,17 @@ fn main() -> ExitCode {
     }
 }
 
-fn command(words: &[&str]) -> Result<(), String> {
+/// Does what the words say. False where a check was made and not passed.
+fn command(words: &[&str]) -> Result<bool, String> {
     match words.split_first() {
-        Some((&("--help" | "-h"), _)) => say(help::TOOL),
-        Some((&"run", rest)) => run_command(rest),
-        Some((&"draw", rest)) => draw_command(rest),
-        Some((&"bench", rest)) => bench_command(rest),
-        Some((word, _)) => Err(format!("`{word}` is not a command: see ./kaungimewe --help")),
-        None => Err(help::TOOL.trim_end().to_string()),
+        Some((&("--help" | "-h"), _)) => say(help::TOOL)?,
+        Some((&"run", rest)) => run_command(rest)?,
+        Some((&"draw", rest)) => draw_command(rest)?,
+        Some((&"bench", rest)) => return bench_command(rest),
+        Some((word, _)) => return Err(format!("`{word}` is not a command: see ./kaungimewe --help")),
+        None => return Err(help::TOOL.trim_end().to_string()),
     }
+    Ok(true)
 }
 
 fn run_command(words: &[&str]) -> Result<(), String> {
@@ -61,18 +64,22 @@ fn draw_command(words: &[&str]) -> Result<(), String> {
     say(&draw::draw(open(file)?, apart)?)
 }
 
-fn bench_command(words: &[&str]) -> Result<(), String> {
-    let (mut rounds, mut seed) = (5, 2);
+/// False where a bound was to be checked and is missed.
+fn bench_command(words: &[&str]) -> Result<bool, String> {
+    let (mut rounds, mut seed, mut check) = (5, 2, false);
     let mut words = words.iter();
     while let Some(word) = words.next() {
         match *word {
-            "--help" | "-h" => return say(help::BENCH),
+            "--help" | "-h" => return say(help::BENCH).map(|()| true),
+            "--check" => check = true,
             "--rounds" => rounds = count(words.next(), "--rounds")?.max(1),
             "--seed" => seed = count(words.next(), "--seed")?,
             _ => return Err(format!("`{word}` is not an option: see ./kaungimewe bench --help")),
         }
     }
-    say(&bench::bench(rounds as usize, seed))
+    let rounds = rounds as usize;
+    let (text, held) = if check { bench::check(rounds, seed) } else { (bench::bench(rounds, seed), true) };
+    say(&text).map(|()| held)
 }
 
 /// The help of `run`, with the refusals from their own table.

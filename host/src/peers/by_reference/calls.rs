@@ -97,7 +97,8 @@ impl Engine for ByReference {
     }
 
     fn relate(&self, a: MarkId, b: MarkId) -> Result<Relation, Refusal> {
-        let (p, q) = (self.place(a)?, self.place(b)?);
+        let place = |id: MarkId| self.indexed(id.desk, id.number).ok_or(Refusal::NotExecuted);
+        let (p, q) = (place(a)?, place(b)?);
         Ok(if p == q {
             Relation::Same
         } else if self.precedes(p, q) {

@@ -14,7 +14,7 @@ pub(super) fn box_rule(b: &MarkBox) -> bool {
     b.start < b.end && b.low < b.high
 }
 
-fn in_range(desk: u8, number: u16) -> bool {
+pub(super) fn in_range(desk: u8, number: u16) -> bool {
     (1..=WIDTH).contains(&usize::from(desk)) && (1..=PLACES).contains(&usize::from(number))
 }
 

@@ -1,7 +1,8 @@
 //! The proved engine's plan in plain Rust: flat arrays by place, lent and never copied, with full counts kept per mark.
 //!
 //! What the proved engine finds by following stamp entries, its trace, stands here ready in the full counts: at index
-//! d − 1 how many marks of desk d precede the mark.
+//! d − 1 how many marks of desk d precede the mark. Relate finds both marks by an index; the other calls look for a mark
+//! at all places.
 mod calls;
 mod frame;
 
@@ -30,7 +31,14 @@ pub struct ByReference {
     boxes: Vec<MarkBox>,
     stamps: Vec<Row>,
     counts: Vec<Row>,
+    /// The place + 1 of each executed mark at the index of its name, 0 where there is none.
+    places: Vec<u16>,
     waiting: Vec<Held>,
+}
+
+/// Where the index has a name; none if the name is out of range.
+fn slot(desk: u8, number: u16) -> Option<usize> {
+    frame::in_range(desk, number).then(|| (usize::from(desk) - 1) * PLACES + usize::from(number) - 1)
 }
 
 /// At each desk the greater of the two counts.
@@ -62,12 +70,18 @@ impl ByReference {
             boxes: Vec::with_capacity(PLACES),
             stamps: Vec::with_capacity(PLACES),
             counts: Vec::with_capacity(PLACES),
+            places: vec![0; WIDTH * PLACES],
             waiting: Vec::new(),
         }
     }
 
     fn find(&self, desk: u8, number: u16) -> Option<usize> {
         (0..self.desks.len()).find(|&p| self.desks[p] == desk && self.numbers[p] == number)
+    }
+
+    /// The same by the index.
+    fn indexed(&self, desk: u8, number: u16) -> Option<usize> {
+        usize::from(self.places[slot(desk, number)?]).checked_sub(1)
     }
 
     fn tally(&self) -> Row {
@@ -110,6 +124,8 @@ impl ByReference {
         self.boxes.push(mark.extent);
         self.stamps.push(mark.row);
         self.counts.push(below);
+        let slot = slot(mark.desk, mark.number).expect("its name is in range");
+        self.places[slot] = self.desks.len() as u16;
     }
 
     /// Releases the ready waiting marks, lowest desk first: how many were executed and how many dropped.

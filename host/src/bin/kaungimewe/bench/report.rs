@@ -4,6 +4,7 @@ use std::fmt::Write;
 use kaungimewe::peers::clocks::FRAME;
 use kaungimewe::HEAD;
 
+use super::bounds::BOUNDS;
 use super::load::{Load, LAG, SWAPPED};
 use super::measure::CALLS;
 use super::{Medians, SIZES};
@@ -23,9 +24,7 @@ fn write_report(text: &mut String, load: &Load, rounds: usize, medians: &Medians
     let ratio = frame / FRAME as f64;
     writeln!(text, "Bytes on the wire: {frame:.1} a frame; {FRAME} with full counts; ratio {ratio:.2}\n")?;
     writeln!(text, "Bounds")?;
-    let proved = &medians.proved[SIZES.len() - 1];
-    bound(text, "Relate over all pairs at most 1.0 x (b)", proved[2] / medians.clocks[2], 1.0)?;
-    bound(text, "Receive at most 3 x (a)", proved[0] / medians.by_reference[0], 3.0)
+    BOUNDS.iter().try_for_each(|bound| text.write_str(&bound.line(bound.ratio(medians))))
 }
 
 fn history(text: &mut String, load: &Load, frame: f64) -> std::fmt::Result {
@@ -43,10 +42,15 @@ fn history(text: &mut String, load: &Load, frame: f64) -> std::fmt::Result {
 fn times(text: &mut String, medians: &Medians) -> std::fmt::Result {
     writeln!(text, "  {:<18}{:>11}{:>11}{:>11}{:>13}{:>13}", "", "proved", "(a)", "(b)", "proved/(a)", "proved/(b)")?;
     for (i, call) in CALLS.iter().enumerate() {
-        let (p, a, b) = (medians.proved[SIZES.len() - 1][i], medians.by_reference[i], medians.clocks[i]);
-        writeln!(text, "  {call:<18}{:>11}{:>11}{:>11}{:>13.2}{:>13.2}", time(p), time(a), time(b), p / a, p / b)?;
+        let (p, a) = (medians.whole()[i], medians.by_reference[i]);
+        let beside_b = |b: &f64| (time(*b), format!("{:.2}", p / b));
+        let (b, ratio) = medians.clocks.get(i).map_or(("-".into(), "-".into()), beside_b);
+        writeln!(text, "  {call:<18}{:>11}{:>11}{b:>11}{:>13.2}{ratio:>13}", time(p), time(a), p / a)?;
     }
-    writeln!(text, "  (a) the same plan in plain Rust, by reference, with full counts kept per mark")?;
+    writeln!(
+        text,
+        "  (a) the same plan in plain Rust, by reference, with full counts kept per mark and, for Relate, an index"
+    )?;
     writeln!(text, "  (b) a BTreeMap vector clock for each mark, looked up by name, compared by partial_cmp\n")
 }
 
@@ -63,11 +67,6 @@ fn growth(text: &mut String, medians: &Medians) -> std::fmt::Result {
         writeln!(text)?;
     }
     writeln!(text)
-}
-
-fn bound(text: &mut String, what: &str, ratio: f64, most: f64) -> std::fmt::Result {
-    let verdict = if ratio <= most { "held" } else { "missed" };
-    writeln!(text, "  {what}: {ratio:.2}, {verdict}")
 }
 
 fn time(nanoseconds: f64) -> String {

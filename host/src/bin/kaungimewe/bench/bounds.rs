@@ -1,0 +1,66 @@
+//! The bounds on the proved engine's times, as ratios to other times of the same run.
+use super::measure::{Call, CALLS};
+use super::Medians;
+
+/// What a junk frame cost before the desk stayed in place, as a ratio to (a)'s Receive in the same run: each call then
+/// copied the desk six times.
+/// PLACEHOLDER: to be measured at the last commit of that engine, 4f2ef69.
+const OLD_JUNK_RATIO: f64 = 5.0;
+
+/// What a call's time is held against.
+enum Beside {
+    /// The same call of (a).
+    ByReference,
+    /// The same call of (b).
+    Clocks,
+    /// A junk frame before the desk stayed in place.
+    OldJunk,
+}
+
+/// A call takes at most so many times what it is held against.
+pub struct Bound {
+    call: Call,
+    most: f64,
+    beside: Beside,
+}
+
+/// Every bound.
+pub const BOUNDS: [Bound; 7] = [
+    Bound { call: Call::Receive, most: 0.7, beside: Beside::ByReference },
+    Bound { call: Call::Mark, most: 0.2, beside: Beside::ByReference },
+    Bound { call: Call::Relate, most: 0.6, beside: Beside::Clocks },
+    Bound { call: Call::Apart, most: 1.5, beside: Beside::ByReference },
+    Bound { call: Call::FirstApart, most: 1.5, beside: Beside::ByReference },
+    Bound { call: Call::FrameAgain, most: 1.5, beside: Beside::ByReference },
+    Bound { call: Call::JunkFrame, most: 0.1, beside: Beside::OldJunk },
+];
+
+impl Bound {
+    /// The ratio that is bounded.
+    pub fn ratio(&self, medians: &Medians) -> f64 {
+        let call = self.call as usize;
+        let beside = match self.beside {
+            Beside::ByReference => medians.by_reference[call],
+            Beside::Clocks => medians.clocks[call],
+            Beside::OldJunk => medians.by_reference[Call::Receive as usize] * OLD_JUNK_RATIO,
+        };
+        medians.whole()[call] / beside
+    }
+
+    /// Is the bound held by a ratio?
+    pub fn is_held(&self, ratio: f64) -> bool {
+        ratio <= self.most
+    }
+
+    /// A line with a ratio, the bound, and whether it is held.
+    pub fn line(&self, ratio: f64) -> String {
+        let (call, most) = (CALLS[self.call as usize], self.most);
+        let beside = match self.beside {
+            Beside::ByReference => "(a)",
+            Beside::Clocks => "(b)",
+            Beside::OldJunk => "its cost when calls copied the desk",
+        };
+        let verdict = if self.is_held(ratio) { "held" } else { "missed" };
+        format!("  {call:<18}{ratio:>8.3}, at most {most} x {beside}: {verdict}\n")
+    }
+}
