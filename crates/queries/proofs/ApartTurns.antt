@@ -1,8 +1,8 @@
 -- Turns of the loops of Apart: a row of first followers is tested and noted, and marks apart are listed. n: how many desks. Assumes nothing.
 use Prim.Native.Nat.{_+_, _-_, _<_, _≤_, suc, zero, ℕ}
 use borrow.Author.Tests.{eq-eqb, eqb-false, eqb-true, le-ltb, lt-ltb, ne-eqb}
-use lib.Dec.{T, eqb, leb, ltb, ltb→lt, nltb→le, not-T}
-use lib.ListN.{getD, length, length-replicate, replicate, set}
+use lib.Dec.{T, eqb, leb, ltb, ltb→lt, nleb→lt, nltb→le, not-T}
+use lib.ListN.{getD, length, length-replicate, length-set, replicate, set}
 use lib.Seq.{getD-set-other, getD-set-same}
 use mathlib.Core.Bool.{Bool, _&&_, _||_, cond, false, not, or-false, or-true, true}
 use mathlib.Core.List.{List, _∷_}
@@ -20,11 +20,12 @@ use Rattle.causality.proofs.Reach.{Sound}
 use Rattle.pairs.specs.declared.Listed.{Listed}
 use Rattle.rows.specs.View.{markAt, namesDown, rowAt, rowFn, view}
 use Rattle.rows.proofs.Arrays.{sound-below}
-use Rattle.rows.proofs.Places.{has-at, not-before, precedes-there}
+use Rattle.rows.proofs.Places.{has-at, not-before, precedes-no-earlier, precedes-there}
 use Rattle.rows.proofs.RowSteps.{not-leb}
 use Rattle.rows.proofs.Slots.{zero-one, zeros}
 use Rattle.queries.specs.Found.{Spare}
 use Rattle.queries.specs.Steps.{PastTold}
+use Rattle.queries.proofs.OwnDesk.{own-follows}
 
 -- THE TEST
 
@@ -110,8 +111,12 @@ module _ (n : ℕ) (ds ns ss : List ℕ) (count p : ℕ) where
         → namesDown (list .count) (list .desks) (list .numbers) ≡ keep (concurrent (view n count ds ns bs ss) given) (ids (view n q ds ns bs ss))
 
   module _ (q : ℕ) (first : List ℕ) (list : Listed) (w : ApartTo q first list) (h : p < count) (l : q < count) where
+    -- Is the mark the given one, or does its stamp name a follower? The code asks it of no mark before the given one.
+    abbrev names : Bool
+    names = eqb p q || someFollower n (rowFn first) (rowAt n ss q)
+
     abbrev test : Bool
-    test = eqb p q || someFollower n (rowFn first) (rowAt n ss q)
+    test = leb p q && names
 
     module _ (bs : ℕ → MarkBox) (s : Sound (view n count ds ns bs ss)) where
       abbrev m : Mark
@@ -131,82 +136,128 @@ module _ (n : ℕ) (ds ns ss : List ℕ) (count p : ℕ) where
             ])))
       ]
 
-      -- What the code's test says.
-      test-is : test ≡ (same given (m .id) || reachedBy (followers given older) (m .stamp))
-      test-is =
+      names-is : names ≡ (same given (m .id) || reachedBy (followers given older) (m .stamp))
+      names-is =
           let a = same-place in
           let b = follower-cong n (rowFn first) (followers given older) (rowAt n ss q) (w .rows bs s) ∙ sym (reached-by-row n (followers given older) (rowAt n ss q)) in
           λ i. a i || b i
 
-      apart-is : (past : List ℕ) → PastTold n ds ns bs ss count p past → concurrent (view n count ds ns bs ss) given (m .id) ≡ (not test && ltb (rowFn past (getD ds q 0)) (getD ns q 0))
+      -- The given mark or one that follows it.
+      follows-is : (same given (m .id) || precedes (view n count ds ns bs ss) given (m .id)) ≡ names
+      unfolding view
+      follows-is = ap (λ (b : Bool). same given (m .id) || b) (precedes-there n ds ns bs ss count q s l given) ∙ follower-new m older (sound-below n count ds ns bs ss s (suc q) l) given ∙ sym names-is
+
+      -- A mark before it is neither.
+      none-before : q < p → names ≡ false
+      none-before o =
+          let a = sym same-place ∙ ne-eqb p q (λ e. omega arith) in
+          let b = precedes-no-earlier n ds ns bs ss count p q s h (omega arith) in
+          sym follows-is ∙ (λ i. a i || b i)
+
+      -- What the code's test says.
+      test-names : test ≡ names
+      test-names = elim (split (leb p q)) [
+        | inl t ↦ ap (λ (b : Bool). b && names) (T→eq (leb p q) t)
+        | inr t ↦ ap (λ (b : Bool). b && names) (nT→eq (leb p q) t) ∙ sym (none-before (nleb→lt p q t))
+      ]
+
+      -- The desk has a follower noted.
+      own-names : 1 ≤ getD ds q 0 → getD ds q 0 ≤ n → 0 < rowFn first (getD ds q 0) → names ≡ true
+      unfolding view
+      own-names lo hi o = let e = w .rows bs s (getD ds q 0) lo hi in names-is ∙ own-follows m older (sound-below n count ds ns bs ss s (suc q) l) given (omega arith)
+
+      apart-is : (past : List ℕ) → PastTold n ds ns bs ss count p past → concurrent (view n count ds ns bs ss) given (m .id) ≡ (not names && ltb (rowFn past (getD ds q 0)) (getD ns q 0))
       unfolding concurrent view
       apart-is past told = (λ i. not (same given (m .id)) && (not (precedes (view n count ds ns bs ss) given (m .id)) && (ap not (told (m .id) (has-at n ds ns bs ss count q l)) ∙ not-leb (getD ns q 0) (rowFn past (getD ds q 0))) i))
           ∙ either (same given (m .id)) (precedes (view n count ds ns bs ss) given (m .id)) (ltb (rowFn past (getD ds q 0)) (getD ns q 0))
           ∙ ap (λ (b : Bool). not b && ltb (rowFn past (getD ds q 0)) (getD ns q 0))
-          (ap (λ (b : Bool). same given (m .id) || b) (precedes-there n ds ns bs ss count q s l given) ∙ follower-new m older (sound-below n count ds ns bs ss s (suc q) l) given ∙ sym test-is)
+          follows-is
         where
           either : (a b c : Bool) → (not a && (not b && c)) ≡ (not (a || b) && c)
           either true b c = refl
           either false b c = refl
 
-    step-rows : (first′ : List ℕ) (b : Bool) → test ≡ b
+    -- Of every sound history, whether the mark is the given one or follows it is b.
+    abbrev Told : Bool → Type 0
+    Told b = (bs : ℕ → MarkBox) → Sound (view n count ds ns bs ss) → names ≡ b
+
+    step-rows : (first′ : List ℕ) (b : Bool) → Told b
         → ((d : ℕ) → 1 ≤ d → d ≤ n → rowFn first′ d ≡ elim b [ true ↦ noted (rowFn first) (record { desk = getD ds q 0; number = getD ns q 0 }) d | false ↦ rowFn first d ])
         → (bs : ℕ → MarkBox) → Sound (view n count ds ns bs ss) → (d : ℕ) → 1 ≤ d → d ≤ n → rowFn first′ d ≡ followers given (view n (q + 1) ds ns bs ss) d
     unfolding view
-    step-rows first′ b e f bs s d lo hi = f d lo hi ∙ go b e ∙ ap (λ (k : ℕ). followers given (view n k ds ns bs ss) d) (sym (add-one q))
+    step-rows first′ b e f bs s d lo hi = f d lo hi ∙ go b (e bs s) ∙ ap (λ (k : ℕ). followers given (view n k ds ns bs ss) d) (sym (add-one q))
       where
         g : rowFn first d ≡ followers given (view n q ds ns bs ss) d
         g = w .rows bs s d lo hi
 
-        go : (b : Bool) → test ≡ b → elim b [ true ↦ noted (rowFn first) (record { desk = getD ds q 0; number = getD ns q 0 }) d | false ↦ rowFn first d ] ≡ followers given (view n (suc q) ds ns bs ss) d
-        go true e = rw (sym (test-is bs s) ∙ e, followers) (λ i. elim (eqb d (getD ds q 0) && eqb (g i) 0) [ true ↦ getD ns q 0 | false ↦ g i ])
-        go false e = rw (sym (test-is bs s) ∙ e, followers) g
+        go : (b : Bool) → names ≡ b → elim b [ true ↦ noted (rowFn first) (record { desk = getD ds q 0; number = getD ns q 0 }) d | false ↦ rowFn first d ] ≡ followers given (view n (suc q) ds ns bs ss) d
+        go true e = rw (sym (names-is bs s) ∙ e, followers) (λ i. elim (eqb d (getD ds q 0) && eqb (g i) 0) [ true ↦ getD ns q 0 | false ↦ g i ])
+        go false e = rw (sym (names-is bs s) ∙ e, followers) g
 
     module _ (past : List ℕ) (told : (bs : ℕ → MarkBox) → Sound (view n count ds ns bs ss) → PastTold n ds ns bs ss count p past) where
-      step-names : (b : Bool) → (not test && ltb (rowFn past (getD ds q 0)) (getD ns q 0)) ≡ b → (bs : ℕ → MarkBox) → Sound (view n count ds ns bs ss)
+      step-names : (b : Bool) → ((bs : ℕ → MarkBox) → Sound (view n count ds ns bs ss) → (not names && ltb (rowFn past (getD ds q 0)) (getD ns q 0)) ≡ b)
+          → (bs : ℕ → MarkBox) → Sound (view n count ds ns bs ss)
           → let P = concurrent (view n count ds ns bs ss) given in
           keep P (ids (view n (q + 1) ds ns bs ss)) ≡ cond b (record { desk = getD ds q 0; number = getD ns q 0 } ∷ keep P (ids (view n q ds ns bs ss))) (keep P (ids (view n q ds ns bs ss)))
       unfolding view
       step-names b e bs s =
           let P = concurrent (view n count ds ns bs ss) given in
-          let x = apart-is bs s past (told bs s) ∙ e in
+          let x = apart-is bs s past (told bs s) ∙ e bs s in
           ap (λ (k : ℕ). keep P (ids (view n k ds ns bs ss))) (add-one q) ∙ (λ i. cond (x i) (record { desk = getD ds q 0; number = getD ns q 0 } ∷ keep P (ids (view n q ds ns bs ss))) (keep P (ids (view n q ds ns bs ss))))
 
       -- A mark that is the given one or follows it is noted.
-      pub turn-follows : (eqb p q || someFollower n (rowFn first) (rowAt n ss q)) ≡ true → (first′ : List ℕ) → length first′ ≡ n
-          → ((d : ℕ) → 1 ≤ d → d ≤ n → rowFn first′ d ≡ noted (rowFn first) (record { desk = getD ds q 0; number = getD ns q 0 }) d) → ApartTo (q + 1) first′ list
-      turn-follows e first′ long f = record {
+      noting : Told true → (first′ : List ℕ) → length first′ ≡ n
+          → ((d : ℕ) → 1 ≤ d → rowFn first′ d ≡ noted (rowFn first) (record { desk = getD ds q 0; number = getD ns q 0 }) d) → ApartTo (q + 1) first′ list
+      noting e first′ long f = record {
         turns = omega arith;
         small = let x = w .small in omega arith;
         spare = w .spare;
         long = long;
-        rows = step-rows first′ true e f;
-        names = λ bs s. w .names bs s ∙ sym (step-names false (ap (λ (b : Bool). not b && ltb (rowFn past (getD ds q 0)) (getD ns q 0)) e) bs s);
+        rows = step-rows first′ true e (λ d lo hi. f d lo);
+        names = λ bs s. w .names bs s ∙ sym (step-names false (λ bs s. ap (λ (b : Bool). not b && ltb (rowFn past (getD ds q 0)) (getD ns q 0)) (e bs s)) bs s);
       }
+
+      module _ (lo : 1 ≤ getD ds q 0) (hi : getD ds q 0 ≤ n) where
+        -- It is the first of its desk, or one behind.
+        pub turn-first : getD first (getD ds q 0 - 1) 0 ≡ 0 → (leb p q && (eqb p q || someFollower n (rowFn first) (rowAt n ss q))) ≡ true → ApartTo (q + 1) (set first (getD ds q 0 - 1) (getD ns q 0)) list
+        turn-first z e =
+            let long = w .long in
+            noting (λ bs s. sym (test-names bs s) ∙ e) (set first (getD ds q 0 - 1) (getD ns q 0)) (length-set first (getD ds q 0 - 1) (getD ns q 0) ∙ long)
+            (note-first first (getD ds q 0) (getD ns q 0) lo (omega arith) z)
+
+        pub turn-later : (getD first (getD ds q 0 - 1) 0 ≡ 0 → ⊥) → ApartTo (q + 1) first list
+        turn-later z =
+            let o : ¬ (getD first (getD ds q 0 - 1) 0 ≡ 0) = z in
+            noting (λ bs s. own-names bs s lo hi (omega arith)) first (w .long) (λ d x. note-later first (getD ds q 0) (getD ns q 0) lo z d)
 
       -- Another mark of the past of the given one is passed.
-      pub turn-past : (eqb p q || someFollower n (rowFn first) (rowAt n ss q)) ≡ false → getD ns q 0 ≤ rowFn past (getD ds q 0) → ApartTo (q + 1) first list
-      turn-past e u = record {
-        turns = omega arith;
-        small = let x = w .small in omega arith;
-        spare = w .spare;
-        long = w .long;
-        rows = step-rows first false e (λ d lo hi. refl);
-        names = λ bs s. w .names bs s ∙ sym (step-names false (let v = le-ltb (rowFn past (getD ds q 0)) (getD ns q 0) u in λ i. not (e i) && v i) bs s);
-      }
+      pub turn-past : (leb p q && (eqb p q || someFollower n (rowFn first) (rowAt n ss q))) ≡ false → getD ns q 0 ≤ rowFn past (getD ds q 0) → ApartTo (q + 1) first list
+      turn-past t u =
+          let e : Told false = λ bs s. sym (test-names bs s) ∙ t in
+          record {
+            turns = omega arith;
+            small = let x = w .small in omega arith;
+            spare = w .spare;
+            long = w .long;
+            rows = step-rows first false e (λ d lo hi. refl);
+            names = λ bs s. w .names bs s ∙ sym (step-names false (λ bs s. let v = le-ltb (rowFn past (getD ds q 0)) (getD ns q 0) u in λ i. not (e bs s i) && v i) bs s);
+          }
 
       -- One that is not of it is listed.
-      pub turn-apart : count ≤ places → (eqb p q || someFollower n (rowFn first) (rowAt n ss q)) ≡ false → rowFn past (getD ds q 0) < getD ns q 0
+      pub turn-apart : count ≤ places → (leb p q && (eqb p q || someFollower n (rowFn first) (rowAt n ss q))) ≡ false → rowFn past (getD ds q 0) < getD ns q 0
           → ApartTo (q + 1) first (record { desks = set (list .desks) (list .count) (getD ds q 0); numbers = set (list .numbers) (list .count) (getD ns q 0); count = list .count + 1 })
-      turn-apart few e u = record {
-        turns = omega arith;
-        small = let z = w .small in omega arith;
-        spare = record { desks = zero-one (list .desks) places (list .count) (getD ds q 0) (w .spare .desks); numbers = zero-one (list .numbers) places (list .count) (getD ns q 0) (w .spare .numbers) };
-        long = w .long;
-        rows = step-rows first false e (λ d lo hi. refl);
-        names = λ bs s. names-more (list .desks) (list .numbers) (list .count) (getD ds q 0) (getD ns q 0) (within (list .desks) (w .spare .desks .long)) (within (list .numbers) (w .spare .numbers .long)) ∙ ap (λ (x : List MarkId). record { desk = getD ds q 0; number = getD ns q 0 } ∷ x) (w .names bs s)
-            ∙ sym (step-names true (let v = lt-ltb (rowFn past (getD ds q 0)) (getD ns q 0) u in λ i. not (e i) && v i) bs s);
-      }
+      turn-apart few t u =
+          let e : Told false = λ bs s. sym (test-names bs s) ∙ t in
+          record {
+            turns = omega arith;
+            small = let z = w .small in omega arith;
+            spare = record { desks = zero-one (list .desks) places (list .count) (getD ds q 0) (w .spare .desks); numbers = zero-one (list .numbers) places (list .count) (getD ns q 0) (w .spare .numbers) };
+            long = w .long;
+            rows = step-rows first false e (λ d lo hi. refl);
+            names = λ bs s. names-more (list .desks) (list .numbers) (list .count) (getD ds q 0) (getD ns q 0) (within (list .desks) (w .spare .desks .long)) (within (list .numbers) (w .spare .numbers .long))
+                ∙ ap (λ (x : List MarkId). record { desk = getD ds q 0; number = getD ns q 0 } ∷ x) (w .names bs s)
+                ∙ sym (step-names true (λ bs s. let v = lt-ltb (rowFn past (getD ds q 0)) (getD ns q 0) u in λ i. not (e bs s i) && v i) bs s);
+          }
         where
           within : (xs : List ℕ) → length xs ≡ places → list .count < length xs
           within xs h = let x = w .small in omega arith

@@ -1,6 +1,6 @@
--- First apart by the past of the mark at a place and the tally there. n: how many desks. Assumes nothing.
+-- First apart by how many of a desk's marks stand before a place, and how many of these precede the mark there. n: how many desks. Assumes nothing.
 use Prim.Native.Nat.{_<_, _≤_, suc, zero, ℕ}
-use lib.Dec.{T, ltb, ltb→lt, nltb→le, not-T}
+use lib.Dec.{T, leb, ltb, ltb→lt, nltb→le, not-T}
 use mathlib.Core.Bool.{Bool, _&&_, false, not, true}
 use mathlib.Core.List.{List}
 use mathlib.Core.Logic.{inl, inr}
@@ -14,15 +14,16 @@ use Rattle.causality.specs.Marks.{find, has, keep, places, same, tally}
 use Rattle.causality.specs.State.{Mark, State, concurrent, ids, markId, precedes}
 use Rattle.causality.proofs.Apart.{lowest-above, lowestAbove}
 use Rattle.causality.proofs.Logic.{T→eq, nT→eq, same-refl, same→eq, split}
+use Rattle.causality.proofs.Past.{prefix-le}
 use Rattle.causality.proofs.Reach.{Sound, precedes-listed, sound-counted}
 use Rattle.executed.specs.Rows.{Finds, Lent}
 use Rattle.executed.proofs.Chain.{found-inside, found-place}
-use Rattle.rows.specs.View.{markAt, placeAt, rowFn, view, width}
+use Rattle.rows.specs.View.{markAt, placeAt, view, width}
 use Rattle.rows.proofs.Arrays.{sound-below}
-use Rattle.rows.proofs.Places.{found-none, found-some, has-at, has-more, not-before}
+use Rattle.rows.proofs.Places.{found-none, found-some, has-at, not-before}
 use Rattle.rows.proofs.RowSteps.{not-leb}
 use Rattle.queries.specs.Lent.{lent}
-use Rattle.queries.specs.Steps.{Made, PastOf, PastTold}
+use Rattle.queries.specs.Steps.{MadeBefore, SeenOf}
 use Rattle.queries.proofs.MadeBefore.{made-first}
 use Rattle.queries.proofs.PastRow.{precedes-view}
 
@@ -57,34 +58,38 @@ module _ (n : ℕ) (ds ns : List ℕ) (bs : ℕ → MarkBox) (ss : List ℕ) whe
       m : Mark
       m = markAt n ds ns bs ss k
 
-  -- A mark before place p is concurrent with that at p if it is not of its past.
-  apart-before : (count p : ℕ) → Sound (view n count ds ns bs ss) → p < count → (past : List ℕ) → PastTold n ds ns bs ss count p past
-      → (i : MarkId) → T (has i (ids (view n p ds ns bs ss))) → concurrent (view n count ds ns bs ss) ((markAt n ds ns bs ss p) .id) i ≡ ltb (rowFn past (i .desk)) (i .number)
-  unfolding concurrent
-  apart-before count p s h past told i t = (λ k. not (differ k) && (not (none k) && not (told i (has-more n ds ns bs ss p count (omega arith) i t) k))) ∙ not-leb (i .number) (rowFn past (i .desk))
-    where
-      a : MarkId
-      a = (markAt n ds ns bs ss p) .id
+  -- Of a desk's marks before place p those with numbers up to R precede that at p; the others are concurrent with it.
+  module _ (count p : ℕ) (s : Sound (view n count ds ns bs ss)) (h : p < count) (d R : ℕ) (told : SeenOf n ds ns ss p d (tally d (ids (view n p ds ns bs ss))) R) where
+    abbrev a : MarkId
+    a = (markAt n ds ns bs ss p) .id
 
-      older : T (has a (ids (view n p ds ns bs ss))) → ⊥
-      older = not-before n ds ns bs ss count p p s h (omega arith)
+    below : Sound (view n p ds ns bs ss)
+    below = sound-below n count ds ns bs ss s p (omega arith)
 
-      differ : same a i ≡ false
-      differ = nT→eq (same a i) (not-T (same a i) (λ u. older (rw (same→eq a i u) t)))
+    older : T (has a (ids (view n p ds ns bs ss))) → ⊥
+    older = not-before n ds ns bs ss count p p s h (omega arith)
 
-      none : precedes (view n count ds ns bs ss) a i ≡ false
-      none = precedes-view n ds ns bs ss count p s (omega arith) a i t ∙ nT→eq (precedes (view n p ds ns bs ss) a i)
-          (not-T (precedes (view n p ds ns bs ss) a i) (λ u. older ((precedes-listed (view n p ds ns bs ss) (sound-below n count ds ns bs ss s p (omega arith)) a i u) .0)))
+    apart-before : (i : MarkId) → T (has i (ids (view n p ds ns bs ss))) → i .desk ≡ d → concurrent (view n count ds ns bs ss) a i ≡ ltb R (i .number)
+    unfolding concurrent
+    apart-before i t e = (λ k. not (differ k) && (not (none k) && not (past k))) ∙ not-leb (i .number) R
+      where
+        differ : same a i ≡ false
+        differ = nT→eq (same a i) (not-T (same a i) (λ u. older (rw (same→eq a i u) t)))
 
-  -- The lowest number of a desk's marks before p that are above the past's count.
-  first-at : (count p : ℕ) → Sound (view n count ds ns bs ss) → p < count → (past : List ℕ) → PastTold n ds ns bs ss count p past
-      → (d : ℕ) → let a = (markAt n ds ns bs ss p) .id in lowestNumber d (keep (concurrent (view n count ds ns bs ss) a) (earlier a (ids (view n count ds ns bs ss))))
-      ≡ lowestAbove (rowFn past d) (tally d (ids (view n p ds ns bs ss)))
-  first-at count p s h past told d =
-      let a = (markAt n ds ns bs ss p) .id in
-      ap (λ (x : List MarkId). lowestNumber d (keep (concurrent (view n count ds ns bs ss) a) x)) (earlier-at count p s h)
-      ∙ lowest-above d (rowFn past d) (concurrent (view n count ds ns bs ss) a) (ids (view n p ds ns bs ss)) (sound-counted (view n p ds ns bs ss) (sound-below n count ds ns bs ss s p (omega arith)))
-      (λ i t e. apart-before count p s h past told i t ∙ ap (λ (x : ℕ). ltb (rowFn past x) (i .number)) e)
+        none : precedes (view n count ds ns bs ss) a i ≡ false
+        none = precedes-view n ds ns bs ss count p s (omega arith) a i t
+            ∙ nT→eq (precedes (view n p ds ns bs ss) a i) (not-T (precedes (view n p ds ns bs ss) a i) (λ u. older ((precedes-listed (view n p ds ns bs ss) below a i u) .0)))
+
+        past : precedes (view n count ds ns bs ss) i a ≡ leb (i .number) R
+        past =
+            let w = prefix-le (ids (view n p ds ns bs ss)) (sound-counted (view n p ds ns bs ss) below) i t in
+            ap (λ (x : ℕ). precedes (view n count ds ns bs ss) (record { desk = x; number = i .number }) a) e ∙ told count bs h s (i .number) (w .0) (rw e at (w .1))
+
+    -- The lowest number of the desk's marks before p that are above R.
+    first-at : lowestNumber d (keep (concurrent (view n count ds ns bs ss) a) (earlier a (ids (view n count ds ns bs ss)))) ≡ lowestAbove R (tally d (ids (view n p ds ns bs ss)))
+    first-at =
+        ap (λ (x : List MarkId). lowestNumber d (keep (concurrent (view n count ds ns bs ss) a) x)) (earlier-at count p s h)
+        ∙ lowest-above d R (concurrent (view n count ds ns bs ss) a) (ids (view n p ds ns bs ss)) (sound-counted (view n p ds ns bs ss) below) apart-before
 
   module _ (N own count p : ℕ) (waiting : List Mark) (a : MarkId) (found : placeAt n count p ds ns bs ss ≡ find markId a (view n count ds ns bs ss)) where
     abbrev state : State
@@ -93,13 +98,13 @@ module _ (n : ℕ) (ds ns : List ℕ) (bs : ℕ → MarkBox) (ss : List ℕ) whe
     first-not-executed : (d : ℕ) → isDesk N d ≡ true → count ≤ p → firstApart N (record { own = own; executed = view n count ds ns bs ss; waiting = waiting }) a d ≡ refused 12
     first-not-executed d e h = answer-as N state a d true false _ e (found-none n ds ns bs ss count p a h found .1) refl
 
-    first-given : (d : ℕ) → isDesk N d ≡ true → p < count → Sound (view n count ds ns bs ss) → (past : List ℕ) → PastTold n ds ns bs ss count p past → (t : ℕ) → t ≡ tally d (ids (view n p ds ns bs ss))
-        → firstApart N (record { own = own; executed = view n count ds ns bs ss; waiting = waiting }) a d ≡ gives (lowestAbove (rowFn past d) t)
-    first-given d e h s past told t et =
+    first-given : (d : ℕ) → isDesk N d ≡ true → p < count → Sound (view n count ds ns bs ss) → (R made : ℕ) → made ≡ tally d (ids (view n p ds ns bs ss)) → SeenOf n ds ns ss p d made R
+        → firstApart N (record { own = own; executed = view n count ds ns bs ss; waiting = waiting }) a d ≡ gives (lowestAbove R made)
+    first-given d e h s R made em told =
         let x = found-some n ds ns bs ss count p a h found in
         answer-as N state a d true true _ e (T→eq (has a (ids (view n count ds ns bs ss))) (x .2))
-        (subst (λ (i : MarkId). lowestNumber d (keep (concurrent (view n count ds ns bs ss) i) (earlier i (ids (view n count ds ns bs ss)))) ≡ lowestAbove (rowFn past d) (tally d (ids (view n p ds ns bs ss)))) (x .1) (first-at count p s h past told d)
-        ∙ ap (lowestAbove (rowFn past d)) (sym et))
+        (subst (λ (i : MarkId). lowestNumber d (keep (concurrent (view n count ds ns bs ss) i) (earlier i (ids (view n count ds ns bs ss)))) ≡ lowestAbove R (tally d (ids (view n p ds ns bs ss)))) (x .1)
+        (first-at count p s h d R (subst (λ (k : ℕ). SeenOf n ds ns ss p d k R) em told)) ∙ ap (lowestAbove R) (sym em))
 
 -- LENT ARRAYS
 
@@ -111,8 +116,8 @@ module _ (count : ℕ) (ds ns ss ts ls bf : List ℕ) (l : Lent count ds ns ts l
   pub first-none : places ≤ p → firstApart width (lent count ds ns ss own bs waiting) a d ≡ refused 12
   first-none h = let w = l .few in first-not-executed width ds ns bs ss width own count p waiting a at d e (omega arith)
 
-  pub first-lowest : p < places → Sound (view width count ds ns bs ss) → (past : List ℕ) → PastOf ds ns ss p past → (t : ℕ) → Made ts ls bf d p t
-      → firstApart width (lent count ds ns ss own bs waiting) a d ≡ gives (lowestAbove (rowFn past d) t)
-  first-lowest h s past told t made =
+  pub first-lowest : p < places → Sound (view width count ds ns bs ss) → (R made q : ℕ) → MadeBefore ts ls bf d p made q → SeenOf width ds ns ss p d made R
+      → firstApart width (lent count ds ns ss own bs waiting) a d ≡ gives (lowestAbove R made)
+  first-lowest h s R made q m told =
       let i = found-inside count ds ns ts ls bf l a p f h in
-      first-given width ds ns bs ss width own count p waiting a at d e i s past (told count bs i (l .named) s) t (made-first count p d t ds ns ts ls bf l made (omega arith) bs ss)
+      first-given width ds ns bs ss width own count p waiting a at d e i s R made (made-first count p d made q ds ns ts ls bf l m (omega arith) bs ss) told

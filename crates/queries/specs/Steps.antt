@@ -2,17 +2,16 @@
 use mathlib.Core.Bool.{Bool, true, false}
 use mathlib.Core.List.{List, [], _∷_}
 use mathlib.Core.Path.{_≡_}
-use Prim.Native.Nat.{ℕ, _≤_, _<_}
+use Prim.Native.Nat.{ℕ, zero, suc, _-_, _≤_, _<_}
 use lib.Dec.{T, leb, ltb}
-use lib.ListN.{length}
+use lib.ListN.{length, getD}
 use Rattle.frame.specs.declared.MarkBox.{MarkBox}
 use Rattle.frame.specs.Mark.{MarkId}
 use Rattle.causality.specs.Marks.{has, keep, tally}
 use Rattle.causality.specs.State.{concurrent, ids, precedes}
-use Rattle.causality.proofs.Apart.{noted}
 use Rattle.causality.proofs.Reach.{Sound}
 use Rattle.causality.proofs.RowLaws.{under}
-use Rattle.executed.specs.Rows.{Chain}
+use Rattle.executed.specs.Rows.{Chain, lastIn}
 use Rattle.pairs.specs.declared.Listed.{Listed}
 use Rattle.rows.specs.View.{Named, nameAt, namesDown, rowFn, view, width}
 use Rattle.queries.specs.Found.{Spare}
@@ -43,14 +42,19 @@ abbrev pub upTo : ℕ → List MarkId → List MarkId
 upTo p [] = []
 upTo p (i ∷ is) = elim (ltb (length is) p) [ true ↦ i ∷ is | false ↦ upTo p is ]
 
--- So many marks of desk d are among the first p, by the kept chain of places.
-abbrev pub Made : List ℕ → List ℕ → List ℕ → ℕ → ℕ → ℕ → Type 0
-Made ts ls bf d p r = (is : List MarkId) → Chain is ts ls bf → r ≡ tally d (upTo p is)
+-- So many marks of desk d are among the first p, by the kept chain of places, and the last of them is at place q − 1; 0 is none.
+abbrev pub MadeBefore : List ℕ → List ℕ → List ℕ → ℕ → ℕ → ℕ → ℕ → Type 0
+MadeBefore ts ls bf d p count q = (is : List MarkId) → Chain is ts ls bf → (count ≡ tally d (upTo p is)) × (q ≡ lastIn d (upTo p is))
 
--- The row of first followers, with one mark more noted.
-pub record Noted (before : List ℕ) (i : MarkId) (after : List ℕ) : Type 0 where
-  pub long : length after ≡ width
-  pub counts : (d : ℕ) → 1 ≤ d → d ≤ width → rowFn after d ≡ noted (rowFn before) i d
+-- Down the chain of desk d from its mark k, which stands before place `at`: at q − 1, and each earlier one where the chain leads.
+abbrev pub Down : List ℕ → List ℕ → List ℕ → ℕ → ℕ → ℕ → ℕ → Type 0
+Down ds ns bf d at zero q = Unit {0}
+Down ds ns bf d at (suc k) q = (1 ≤ q) × (q ≤ at) × (nameAt ds ns (q - 1) ≡ record { desk = d; number = suc k }) × Down ds ns bf d (q - 1) k (getD bf (q - 1) 0)
+
+-- Of the first `made` marks of desk d those up to number r precede the mark at place p. n: how many desks.
+abbrev pub SeenOf : ℕ → List ℕ → List ℕ → List ℕ → ℕ → ℕ → ℕ → ℕ → Type 0
+SeenOf n ds ns ss p d made r = (count : ℕ) (bs : ℕ → MarkBox) → p < count → Sound (view n count ds ns bs ss) → (k : ℕ) → 1 ≤ k → k ≤ made
+    → precedes (view n count ds ns bs ss) (record { desk = d; number = k }) (nameAt ds ns p) ≡ leb k r
 
 -- The marks apart from that at place p, of the first `count`.
 pub record ApartAt (ds ns ss : List ℕ) (count p : ℕ) (r : Listed) : Type 0 where

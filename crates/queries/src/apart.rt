@@ -3,7 +3,6 @@ ghost use mathlib.Core.Path.{_≡_};
 ghost use mathlib.Core.Bool.{_&&_, _||_};
 ghost use Prim.Native.Nat.{_≤_, _<_};
 ghost use lib.Dec.{eqb, leb, ltb};
-ghost use lib.ListN.{length};
 ghost use Rattle.causality.specs.Marks.{places};
 ghost use Rattle.causality.specs.Meaning.{idOf};
 ghost use Rattle.causality.specs.declared.Counted.the-variants.{Refused};
@@ -12,7 +11,7 @@ ghost use Rattle.executed.specs.Rows.{Lent};
 ghost use Rattle.rows.specs.View.{width, rowFn, rowAt, Named};
 ghost use Rattle.queries.specs.Found.{ApartFound, Spare};
 ghost use Rattle.queries.specs.Lent.{OfCount};
-ghost use Rattle.queries.specs.Steps.{ApartAt, Noted};
+ghost use Rattle.queries.specs.Steps.{ApartAt};
 use crate::ApartList;
 use crate::past::past;
 use causality::Counted;
@@ -31,7 +30,7 @@ fn reaches(f: u16, x: u16) -> bool
 }
 
 // Is the mark at place q the given one at p, or does its stamp name a follower of it? By the first follower's number at each desk.
-// Each desk is tested, so that the loop becomes vector code.
+// None before p does. Each desk is tested, so that the loop becomes vector code.
 fn follows<'a>(
     stamps: &'a [u16; PLACES * WIDTH],
     first: &'a [u16; WIDTH],
@@ -39,9 +38,12 @@ fn follows<'a>(
     q: Place,
 ) -> bool
     requires { ⌜ q .0 < places ⌝ }
-    ensures { λ r. ⌜ r ≡ (eqb (p .0) (q .0)
-        || someFollower width (rowFn (now (first .entry))) (rowAt width (now (stamps .entry)) (q .0))) ⌝ }
+    ensures { λ r. ⌜ r ≡ (leb (p .0) (q .0) && (eqb (p .0) (q .0)
+        || someFollower width (rowFn (now (first .entry))) (rowAt width (now (stamps .entry)) (q .0)))) ⌝ }
 {
+    if q.0 < p.0 {
+        return false;
+    }
     let base = q.0 * WIDTH;
     let mut found = p.0 == q.0;
     let mut j = 0;
@@ -54,18 +56,8 @@ fn follows<'a>(
     found
 }
 
-// Notes a follower, where it is the first of its desk.
-fn note(first: &mut [u16; WIDTH], desk: u8, number: u16)
-    requires { ⌜ (1 ≤ desk) × (desk ≤ width) × (length (now first) ≡ width) ⌝ }
-    ensures { λ _. ⌜ Noted (now (first .entry)) (record { desk = desk; number = number }) (now (first .exit)) ⌝ }
-{
-    let i = desk as usize - 1;
-    if first[i] == 0 {
-        first[i] = number;
-    }
-}
-
-// One pass by place: a mark that is neither the given one nor follows it, and is not of its past, is apart.
+// One pass by place: a mark that is neither the given one nor follows it, and is not of its past, is apart. The first followers are noted:
+// behind one, all marks of its desk follow.
 fn apart<'a>(
     desks: &'a [u8; PLACES],
     numbers: &'a [u16; PLACES],
@@ -87,13 +79,16 @@ fn apart<'a>(
     while q < count {
         let d = desks[q];
         let n = numbers[q];
-        if follows(stamps, &first, p, Place(q)) {
-            note(&mut first, d, n);
-        } else if past[d as usize - 1] < n {
-            let k = list.count;
-            list.desks[k] = d;
-            list.numbers[k] = n;
-            list.count = k + 1;
+        let i = d as usize - 1;
+        if first[i] == 0 {
+            if follows(stamps, &first, p, Place(q)) {
+                first[i] = n;
+            } else if past[i] < n {
+                let k = list.count;
+                list.desks[k] = d;
+                list.numbers[k] = n;
+                list.count = k + 1;
+            }
         }
         q += 1;
     }

@@ -1,13 +1,13 @@
 // First apart: the lowest number of a desk's marks that were executed before a mark and are concurrent with it.
 ghost use mathlib.Core.Path.{_≡_};
-ghost use Prim.Native.Nat.{_≤_};
+ghost use Prim.Native.Nat.{_≤_, _<_};
 ghost use Rattle.causality.specs.Calls.{firstApart};
+ghost use Rattle.causality.specs.Marks.{places};
 ghost use Rattle.causality.specs.Meaning.{idOf, lowestGiven};
 ghost use Rattle.executed.specs.Rows.{HasChain};
-ghost use Rattle.rows.specs.View.{width};
+ghost use Rattle.rows.specs.View.{width, Named};
 ghost use Rattle.queries.specs.Lent.{HasLent, OfEach};
-ghost use Rattle.queries.specs.Steps.{Made};
-use crate::past::past;
+ghost use Rattle.queries.specs.Steps.{MadeBefore, Down, SeenOf};
 use causality::Lowest;
 use causality::MarkId;
 use causality::Place;
@@ -23,16 +23,22 @@ fn wide(x: u16) -> usize
     x as usize
 }
 
-// How many marks of a desk stand before place p: down its chain of places from the last. q is the place of mark k, plus 1; 0 is none.
+// Marks of a desk that stand before a place: how many, and the place of the last of them, plus 1; 0 is none.
+struct Made {
+    count: u16,
+    last: usize,
+}
+
+// The marks of a desk before place p: down its chain of places from the last. q is the place of mark k, plus 1.
 fn made_before<'a>(
     tally: &'a [u16; WIDTH],
     last: &'a [u16; WIDTH],
     before: &'a [u16; PLACES],
     desk: u8,
     p: Place,
-) -> u16
+) -> Made
     requires { ⌜ HasChain (now tally) (now last) (now before) × (1 ≤ desk) × (desk ≤ width) ⌝ }
-    ensures { λ r. ⌜ Made (now (tally .entry)) (now (last .entry)) (now (before .entry)) desk (p .0) r ⌝ }
+    ensures { λ r. ⌜ MadeBefore (now (tally .entry)) (now (last .entry)) (now (before .entry)) desk (p .0) (r .count) (r .last) ⌝ }
 {
     let d = desk as usize - 1;
     let mut k = tally[d];
@@ -40,6 +46,39 @@ fn made_before<'a>(
     while p.0 < q {
         q = wide(before[q - 1]);
         k -= 1;
+    }
+    Made { count: k, last: q }
+}
+
+// How many of the marks of a desk made before place p precede the mark at p: a first run of numbers, so k runs down to the last of them.
+// Entries are followed down from p until the row counts mark k. Where they come to its place first, plus 1 that is q, it does not precede.
+fn seen<'a>(
+    desks: &'a [u8; PLACES],
+    numbers: &'a [u16; PLACES],
+    stamps: &'a [u16; PLACES * WIDTH],
+    before: &'a [u16; PLACES],
+    p: Place,
+    desk: u8,
+    made: Made,
+) -> u16
+    requires { ⌜ (p .0 < places) × Named width (p .0) (now desks) × (1 ≤ desk) × (desk ≤ width)
+        × Down (now desks) (now numbers) (now before) desk (p .0) (made .count) (made .last) ⌝ }
+    ensures { λ r. ⌜ SeenOf width (now (desks .entry)) (now (numbers .entry)) (now (stamps .entry)) (p .0) desk (made .count) r ⌝ }
+{
+    let d = desk as usize - 1;
+    let mut row = rows::row_at(stamps, p.0);
+    let mut at = p.0;
+    let mut k = made.count;
+    let mut q = made.last;
+    while row[d] < k {
+        let i = at - 1;
+        if at == q {
+            q = wide(before[i]);
+            k -= 1;
+        } else if numbers[i] <= row[desks[i] as usize - 1] {
+            rows::join(stamps, i, &mut row);
+        }
+        at = i;
     }
     k
 }
@@ -64,11 +103,11 @@ pub fn first_apart<'a>(
     if PLACES <= p {
         return Lowest::Refused(Refusal::NotExecuted);
     }
-    let past = past(desks, numbers, stamps, Place(p));
     let made = made_before(tally, last, before, desk, Place(p));
-    let i = desk as usize - 1;
-    if past[i] < made {
-        return Lowest::Number(Number(past[i] + 1));
+    let count = made.count;
+    let n = seen(desks, numbers, stamps, before, Place(p), desk, made);
+    if n < count {
+        return Lowest::Number(Number(n + 1));
     }
     Lowest::None
 }

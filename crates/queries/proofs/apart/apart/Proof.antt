@@ -12,7 +12,7 @@ use Rattle.rows.specs.View.{view, width}
 use Rattle.rows.proofs.RowSteps.{named-at, named-less}
 use Rattle.rows.proofs.Slots.{zero-all}
 use Rattle.queries.specs.Steps.{PastTold}
-use Rattle.queries.proofs.ApartTurns.{ApartTo, apart-all, apart-none, turn-apart, turn-follows, turn-past}
+use Rattle.queries.proofs.ApartTurns.{ApartTo, apart-all, apart-none, turn-apart, turn-first, turn-later, turn-past}
 use Rattle.queries.proofs.apart.apart.Statement.{statement}
 use Rattle.queries.proofs.apart.apart.Tie as tie
 
@@ -29,20 +29,23 @@ loop-holds : tie.Need-loop-holds Inv-loop μ-loop
 loop-holds c = apart-none width _ _ _ _ _ _ refl (record { desks = zero-all places 0; numbers = zero-all places 0 })
 
 -- The mark at the place passed is of a desk.
-in-range : (c : tie.After-follows Inv-loop μ-loop) → let l = c .before .before .before .before .before in let d = getD (l .before .before .args .desks .now) (l .loop .q) 0 in (1 ≤ d) × (d ≤ width)
-in-range c = let i = c .before .before .before .before in named-at width _ _ _ (i .before .before .before .pre .2) (i .loop-test .taken)
+in-range : (c : tie.After-n Inv-loop μ-loop) → let l = c .before .before .before in let d = getD (l .before .before .args .desks .now) (l .loop .q) 0 in (1 ≤ d) × (d ≤ width)
+in-range c = let i = c .before .before in named-at width _ _ _ (i .before .before .before .pre .2) (i .loop-test .taken)
 
-note-requires : tie.Need-note-requires Inv-loop μ-loop
-note-requires c κs = let d = in-range (c .before .before) in (d .0, d .1, c .before .before .before .before .before .before .before .loop .inv .long)
+cast-i : tie.Need-cast-i Inv-loop μ-loop
+cast-i c = omega (arith, in-range c)
 
-cast-if2 : tie.Need-cast-if2 Inv-loop μ-loop
-cast-if2 c = omega (arith, in-range (c .before))
+sub-i : tie.Need-sub-i Inv-loop μ-loop
+sub-i c = in-range c .0
 
-sub-if2 : tie.Need-sub-if2 Inv-loop μ-loop
-sub-if2 c = in-range (c .before) .0
+array-read-if1 : tie.Need-array-read-if1 Inv-loop μ-loop
+array-read-if1 c = omega (arith, in-range c)
 
-array-read-if2 : tie.Need-array-read-if2 Inv-loop μ-loop
-array-read-if2 c = omega (arith, in-range (c .before))
+array-write-first : tie.Need-array-write-first Inv-loop μ-loop
+array-write-first c = omega (arith, in-range (c .before .before .before .before))
+
+array-read-if3 : tie.Need-array-read-if3 Inv-loop μ-loop
+array-read-if3 c = omega (arith, in-range (c .before .before .before .before))
 
 -- The row tells of each mark if it is of the past.
 told : (c : tie.After-past Inv-loop μ-loop) → let a = c .before .args in
@@ -53,14 +56,18 @@ told c bs sound = let s = c .before in c .past .ensures (s .args .count) bs (s .
 loop-again : tie.Need-loop-again Inv-loop μ-loop
 loop-again c =
     let v = c .before in
-    let i = v .before .before .before .before in
+    let i = v .before .before in
     let l = i .before in
     let s = l .before .before in
+    let r = in-range v in
+    let past = l .before .past .result in
     ⊎-elim
-    (λ w. rw (w .3, w .4) (turn-follows width _ _ _ _ _ _ _ _ (l .loop .inv) (s .pre .1) (i .loop-test .taken) (l .before .past .result) (told (l .before)) (sym (v .follows .ensures) ∙ w .0 .taken) (w .2 .last .0) (w .2 .ensures .long) (w .2 .ensures .counts)))
+    (λ w. rw (w .4, w .5) (turn-first width _ _ _ _ _ _ _ _ (l .loop .inv) (s .pre .1) (i .loop-test .taken) past (told (l .before)) (r .0) (r .1) (w .0 .taken) (sym (w .2 .ensures) ∙ w .3 .taken)))
     (⊎-elim
-    (λ w. rw (w .2, w .3) (turn-apart width _ _ _ _ _ _ _ _ (l .loop .inv) (s .pre .1) (i .loop-test .taken) (l .before .past .result) (told (l .before)) (s .pre .0) (sym (v .follows .ensures) ∙ w .0 .left) (w .1 .taken)))
-    (λ w. rw (w .2, w .3) (turn-past width _ _ _ _ _ _ _ _ (l .loop .inv) (s .pre .1) (i .loop-test .taken) (l .before .past .result) (told (l .before)) (sym (v .follows .ensures) ∙ w .0 .left) (w .1 .left)))) (c .if1 .came)
+    (λ w. rw (w .5, w .6) (turn-apart width _ _ _ _ _ _ _ _ (l .loop .inv) (s .pre .1) (i .loop-test .taken) past (told (l .before)) (s .pre .0) (sym (w .2 .ensures) ∙ w .3 .left) (w .4 .taken)))
+    (⊎-elim
+    (λ w. rw (w .5, w .6) (turn-past width _ _ _ _ _ _ _ _ (l .loop .inv) (s .pre .1) (i .loop-test .taken) past (told (l .before)) (sym (w .2 .ensures) ∙ w .3 .left) (w .4 .left)))
+    (λ w. rw (w .1, w .2) (turn-later width _ _ _ _ _ _ _ _ (l .loop .inv) (s .pre .1) (i .loop-test .taken) past (told (l .before)) (r .0) (r .1) (w .0 .left))))) (c .if1 .came)
 
 returns : tie.Need-returns Inv-loop μ-loop
 returns c = let l = c .before in let x = apart-all width _ _ _ _ _ _ _ _ (l .loop .inv) (c .loop-test .left) in record { few = x .0; spare = x .1; names = x .2 }
@@ -76,12 +83,15 @@ apart-spec =
     (λ c. search needs)
     (λ c. search needs)
     (λ c. search needs)
+    cast-i
+    sub-i
+    (λ c. omega (arith, in-range c))
+    array-read-if1
     (λ c κs. search needs)
-    note-requires
-    cast-if2
-    sub-if2
-    (λ c. omega (arith, in-range (c .before)))
-    array-read-if2
+    (λ c. omega (arith, in-range (c .before .before .before .before)))
+    array-write-first
+    (λ c. omega (arith, in-range (c .before .before .before .before)))
+    array-read-if3
     (λ c. search needs)
     (λ c. search needs)
     (λ c. search needs)

@@ -1,9 +1,8 @@
--- `first_apart` meets its contract: of the marks before the place, those of the past are the first of each desk, so the next one is the lowest apart.
+-- `first_apart` meets its contract: of the desk's marks before the place, those that precede are the first, so the next one is the lowest apart.
 use mathlib.Core.Bool.{true}
 use mathlib.Core.List.{List}
 use mathlib.Core.Path.{_∙_, _≡_, ap, sym}
-use Prim.Native.Nat.{_-_, _≤_, ℕ}
-use lib.ListN.{getD}
+use Prim.Native.Nat.{_≤_, ℕ}
 use borrow.Author.Needs.{needs}
 use borrow.Author.Tests.{not-false, not-true}
 use native.Mathlib.Numerals.{add-one}
@@ -23,6 +22,7 @@ use Rattle.rows.specs.View.{view, width}
 use Rattle.rows.proofs.RowSteps.{named-less}
 use Rattle.queries.specs.Lent.{lent}
 use Rattle.queries.proofs.FirstApart.{first-lowest, first-no-desk, first-none}
+use Rattle.queries.proofs.MadeBefore.{made-down}
 use Rattle.queries.proofs.first_apart.first_apart.Statement.{statement}
 use Rattle.queries.proofs.first_apart.first_apart.Tie as tie
 
@@ -39,37 +39,30 @@ in-range c = desk-facts width _ (is-desk c)
 returns-2 : tie.Need-returns-2
 returns-2 c count own bs waiting l sound = let f = c .before in sym (first-none _ _ _ _ _ _ _ l own bs waiting _ _ (f .find .ensures) _ (is-desk (f .before)) (c .if2 .taken))
 
-past-requires : tie.Need-past-requires
-past-requires c κs =
-    let f = c .before in
+made-before-requires : tie.Need-made-before-requires
+made-before-requires c κs = let r = in-range (c .before .before) in (search needs, r .0, r .1)
+
+seen-requires : tie.Need-seen-requires
+seen-requires c κs =
+    let e = c .before in
+    let f = e .before in
     let s = f .before .before .before in
     let m = s .pre .marks in
-    let i = found-inside _ _ _ _ _ _ m _ _ (f .find .ensures) (c .if2 .left) in
-    (c .if2 .left, named-less width (s .pre .count) _ _ (m .named) (omega arith))
+    let r = in-range (f .before) in
+    let i = found-inside _ _ _ _ _ _ m _ _ (f .find .ensures) (e .if2 .left) in
+    (e .if2 .left, named-less width (s .pre .count) _ _ (m .named) (omega arith), r .0, r .1, made-down (s .pre .count) _ _ _ _ _ _ _ _ _ m (c .made-before .ensures) (omega arith))
 
-made-before-requires : tie.Need-made-before-requires
-made-before-requires c κs =
-    let e = c .before .before .before in
-    let r = in-range e in
-    (search needs, r .0, r .1)
-
-sub-i : tie.Need-sub-i
-sub-i c = in-range (c .before .before .before .before) .0
-
-array-read-if3 : tie.Need-array-read-if3
-array-read-if3 c = omega (arith, in-range (c .before .before .before .before))
-
--- What is given once the past and the count of the marks before are known.
-given : (c : tie.After-made-before) → let a = c .before .before .before .before .before .before .args in
+-- What is given once the marks before the place are counted, and those of them that precede.
+given : (c : tie.After-seen) → let m = c .before in
+    let a = m .before .before .before .before .before .args in
     (count own : ℕ) (bs : ℕ → MarkBox) (waiting : List Mark) → Lent count (a .desks .now) (a .numbers .now) (a .tally .now) (a .last .now) (a .before .now)
     → Sound (view width count (a .desks .now) (a .numbers .now) bs (a .stamps .now))
-    → firstApart width (lent count (a .desks .now) (a .numbers .now) (a .stamps .now) own bs waiting) (idOf (a .a)) (a .desk)
-    ≡ gives (lowestAbove (getD (c .before .past .result) (a .desk - 1) 0) (c .made-before .result))
+    → firstApart width (lent count (a .desks .now) (a .numbers .now) (a .stamps .now) own bs waiting) (idOf (a .a)) (a .desk) ≡ gives (lowestAbove (c .seen .result) (m .made-before .result .count))
 given c count own bs waiting l sound =
-    let p = c .before in
-    let e = p .before in
+    let m = c .before in
+    let e = m .before in
     let f = e .before in
-    first-lowest _ _ _ _ _ _ _ l own bs waiting _ _ (f .find .ensures) _ (is-desk (f .before)) (e .if2 .left) sound (p .past .result) (p .past .ensures) (c .made-before .result) (c .made-before .ensures)
+    first-lowest _ _ _ _ _ _ _ l own bs waiting _ _ (f .find .ensures) _ (is-desk (f .before)) (e .if2 .left) sound (c .seen .result) _ _ (m .made-before .ensures) (c .seen .ensures)
 
 returns-3 : tie.Need-returns-3
 returns-3 c count own bs waiting l sound = sym (given (c .before) count own bs waiting l sound ∙ ap gives (above-yes _ _ (c .if3 .taken) ∙ sym (add-one _)))
@@ -85,13 +78,8 @@ first-apart-spec =
     returns
     (λ c κs. search needs)
     returns-2
-    past-requires
     made-before-requires
-    sub-i
-    (λ c. search needs)
-    array-read-if3
-    (λ c. search needs)
-    (λ c. array-read-if3 (c .before))
+    seen-requires
     (λ c. search needs)
     returns-3
     returns-4)
