@@ -74,7 +74,7 @@ fn find_apart<'a>(
     requires { ⌜ Lent count (now desks) (now numbers) (now tally) (now last) (now before) ⌝ }
     ensures { λ r. ⌜ OfCount count desks numbers stamps tally last before (λ st. ApartFound st (idOf (markId a n)) room r) ⌝ }
 {
-    let mark = named(a, n);
+    let given = named(a, n);
     queries::apart::apart_list(
         desks,
         numbers,
@@ -83,7 +83,7 @@ fn find_apart<'a>(
         tally,
         last,
         before,
-        mark,
+        given,
         room,
     )
 }
