@@ -81,7 +81,8 @@ Tallies l t = (e : ℕ) → 1 ≤ e → e ≤ width → rowFn t e ≡ tally e (i
 
 -- The verdict on a mark that is neither executed nor waiting, where so many wait, whatever they are.
 abbrev pub AdmittedBy : List ℕ → ℕ → List ℕ → List ℕ → List ℕ → ℕ → Held → Verdict → Type 0
-AdmittedBy t count ds ns ss waiting h r = (own : ℕ) (bs : ℕ → MarkBox) (ws : List Mark) → length ws ≡ waiting → Sound (view width count ds ns bs ss) → Tallies (view width count ds ns bs ss) t
+AdmittedBy t count ds ns ss waiting h r = (own : ℕ) (bs : ℕ → MarkBox) (ws : List Mark) → length ws ≡ waiting
+    → Sound (view width count ds ns bs ss) → Tallies (view width count ds ns bs ss) t
     → verdictOf r ≡ admission (record { own = own; executed = view width count ds ns bs ss; waiting = ws }) (heldMark h)
 
 -- The arrays are those of a desk that came from New and the calls, with some heads; its state.
@@ -94,7 +95,8 @@ lentState own count ds ns bs ss q = record { own = own; executed = view width co
 
 -- The false-stamp test of a ready mark, over lent arrays.
 abbrev pub FalseIf : ℕ → List ℕ → List ℕ → List ℕ → Held → Bool → Type 0
-FalseIf count ds ns ss h r = (bs : ℕ → MarkBox) → Sound (view width count ds ns bs ss) → T (ready (view width count ds ns bs ss) (heldMark h)) → r ≡ falseStamp (view width count ds ns bs ss) (heldMark h)
+FalseIf count ds ns ss h r = (bs : ℕ → MarkBox) → Sound (view width count ds ns bs ss)
+    → T (ready (view width count ds ns bs ss) (heldMark h)) → r ≡ falseStamp (view width count ds ns bs ss) (heldMark h)
 
 -- THE RELEASE
 
@@ -134,13 +136,15 @@ droppedBy false f = suc f
 pub record Turned (a : Arrays) (q : Waiting) (b : Arrays) (r : Waiting) (executes : Bool) : Type 0 where
   pub midway : Midway b r
   pub one : q .count ≡ r .count + 1
-  pub turn : (turns k f : ℕ) → release (suc turns) (executedIn a) (waitingIn q) k f ≡ release turns (executedIn b) (waitingIn r) (executedBy executes k) (droppedBy executes f)
+  pub turn : (turns k f : ℕ) → release (suc turns) (executedIn a) (waitingIn q) k f
+      ≡ release turns (executedIn b) (waitingIn r) (executedBy executes k) (droppedBy executes f)
 
 -- The whole of it, after the mark that was received.
 pub record ReleasePromise (a : Arrays) (q : Waiting) (b : Arrays) (r : Waiting) (n : Released) : Type 0 where
   pub ordered : Ordered b
   pub queued : Queued r
-  pub end : record { executed = executedIn b; waiting = waitingIn r; k = n .executed; f = n .dropped } ≡ release (length (waitingIn q)) (executedIn a) (waitingIn q) 1 0
+  pub end : record { executed = executedIn b; waiting = waitingIn r; k = n .executed; f = n .dropped }
+      ≡ release (length (waitingIn q)) (executedIn a) (waitingIn q) 1 0
 
 -- RECEIVE of a mark that its frame gave, from arrays a and waiting marks q to b and r
 pub record Arrived (own : ℕ) (a : Arrays) (q : Waiting) (b : Arrays) (r : Waiting) (h : Held) (answer : Received) : Type 0 where

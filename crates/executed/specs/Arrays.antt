@@ -26,17 +26,20 @@ abbrev pub arrays : ℕ → List ℕ → List ℕ → List ℕ → List ℕ → 
 arrays c ds ns bs ss ts hs ls bf = record { count = c; desks = ds; numbers = ns; boxes = bs; stamps = ss; tally = ts; heads = hs; last = ls; before = bf }
 
 -- Of lent arrays: as they are.
-abbrev pub here : RefT ℕ → RefT (List ℕ) → RefT (List ℕ) → RefT (List ℕ) → RefT (List ℕ) → RefT (List ℕ) → RefT (List ℕ) → RefT (List ℕ) → RefT (List ℕ) → Arrays
+abbrev pub here : RefT ℕ → RefT (List ℕ) → RefT (List ℕ) → RefT (List ℕ) → RefT (List ℕ)
+    → RefT (List ℕ) → RefT (List ℕ) → RefT (List ℕ) → RefT (List ℕ) → Arrays
 here c ds ns bs ss ts hs ls bf = arrays (c .now) (ds .now) (ns .now) (bs .now) (ss .now) (ts .now) (hs .now) (ls .now) (bf .now)
 
 -- As found and as left, which is what an `ensures` has of a parameter that is lent.
 abbrev pub Lending : Type 0 → Type 0
 Lending A = Both (RefT A) (RefT A)
 
-abbrev pub found : Lending ℕ → Lending (List ℕ) → Lending (List ℕ) → Lending (List ℕ) → Lending (List ℕ) → Lending (List ℕ) → Lending (List ℕ) → Lending (List ℕ) → Lending (List ℕ) → Arrays
+abbrev pub found : Lending ℕ → Lending (List ℕ) → Lending (List ℕ) → Lending (List ℕ) → Lending (List ℕ)
+    → Lending (List ℕ) → Lending (List ℕ) → Lending (List ℕ) → Lending (List ℕ) → Arrays
 found c ds ns bs ss ts hs ls bf = here (c .entry) (ds .entry) (ns .entry) (bs .entry) (ss .entry) (ts .entry) (hs .entry) (ls .entry) (bf .entry)
 
-abbrev pub left : Lending ℕ → Lending (List ℕ) → Lending (List ℕ) → Lending (List ℕ) → Lending (List ℕ) → Lending (List ℕ) → Lending (List ℕ) → Lending (List ℕ) → Lending (List ℕ) → Arrays
+abbrev pub left : Lending ℕ → Lending (List ℕ) → Lending (List ℕ) → Lending (List ℕ) → Lending (List ℕ)
+    → Lending (List ℕ) → Lending (List ℕ) → Lending (List ℕ) → Lending (List ℕ) → Arrays
 left c ds ns bs ss ts hs ls bf = here (c .exit) (ds .exit) (ns .exit) (bs .exit) (ss .exit) (ts .exit) (hs .exit) (ls .exit) (bf .exit)
 
 -- The executed marks, newest first.
