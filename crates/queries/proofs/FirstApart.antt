@@ -23,9 +23,10 @@ use Rattle.rows.proofs.Arrays.{sound-below}
 use Rattle.rows.proofs.Places.{found-none, found-some, has-at, not-before}
 use Rattle.rows.proofs.RowSteps.{not-leb}
 use Rattle.queries.specs.Lent.{lent}
-use Rattle.queries.specs.Steps.{MadeBefore, SeenOf}
+use Rattle.queries.specs.Steps.{MadeBefore}
 use Rattle.queries.proofs.MadeBefore.{made-first}
 use Rattle.queries.proofs.PastRow.{precedes-view}
+use Rattle.queries.proofs.Seen.{SeenOf}
 
 -- The answer by its two tests.
 answer-as : (N : ℕ) (st : State) (a : MarkId) (d : ℕ) (x y : Bool) (v : ℕ) → isDesk N d ≡ x → has a (ids (st .executed)) ≡ y

@@ -9,7 +9,7 @@ use native.Mathlib.Omega.{arith}
 use Rattle.frame.specs.Mark.{MarkId}
 use Rattle.causality.specs.Marks.{same, tally}
 use Rattle.causality.specs.State.{Mark, ids}
-use Rattle.causality.proofs.Apart.{follower-new, follower-row, followers, reachedBy, reaches}
+use Rattle.causality.proofs.Apart.{follower-new, follower-row, followers, reachedBy}
 use Rattle.causality.proofs.Lists.{has-self}
 use Rattle.causality.proofs.Past.{Counted, tally-le, tally-same}
 use Rattle.causality.proofs.Reach.{Sound, sound-counted}

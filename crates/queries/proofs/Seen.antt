@@ -2,7 +2,7 @@
 use Prim.Native.Nat.{_*_, _+_, _-_, _<_, _≤_, max, min, ℕ}
 use borrow.Author.Tests.{le-leb, leb-false, leb-true, lt-leb}
 use lib.Dec.{T, leb, not-T}
-use lib.ListN.{getD, length}
+use lib.ListN.{getD}
 use mathlib.Core.Bool.{Bool, false, true}
 use mathlib.Core.List.{List}
 use mathlib.Core.Path.{_∙_, _≡_, ap, refl, subst, sym}
@@ -10,126 +10,91 @@ use native.Mathlib.Omega.{arith}
 use Rattle.frame.specs.declared.MarkBox.{MarkBox}
 use Rattle.frame.specs.Mark.{MarkId}
 use Rattle.causality.specs.Marks.{has}
-use Rattle.causality.specs.State.{ids}
+use Rattle.causality.specs.State.{ids, precedes}
 use Rattle.causality.proofs.Logic.{nT→eq}
 use Rattle.causality.proofs.Reach.{Sound}
 use Rattle.causality.proofs.RowLaws.{under-up}
 use Rattle.rows.specs.View.{Named, nameAt, rowFn, view}
 use Rattle.rows.proofs.Arrays.{sound-below}
 use Rattle.rows.proofs.Places.{not-before}
-use Rattle.rows.proofs.RowSteps.{named-less}
-use Rattle.queries.specs.Steps.{Down, SeenOf}
+use Rattle.queries.specs.Steps.{Down, SeenFrom}
 use Rattle.queries.proofs.MadeBefore.{down-less, down-some}
 use Rattle.queries.proofs.PastRow.{reached-counts}
 use Rattle.queries.proofs.Reaching.{reach-end, reach-joined, reach-passed, reached}
 
-module _ (n : ℕ) (ds ns ss bf : List ℕ) (p d made : ℕ) (row₀ : List ℕ) where
-  -- Entries are followed from the row of place p down to `at`. No mark of the desk behind its mark k, of those made, precedes.
-  pub record SeenTo (row : List ℕ) (at k q : ℕ) : Type 0 where
-    pub turns : k ≤ made
-    pub back : at ≤ p
-    pub chain : Down ds ns bf d at k q
-    pub long : length row ≡ n
-    pub same-reach : (bs : ℕ → MarkBox) (j : ℕ) → 1 ≤ j → j ≤ n → reached n ds ns bs ss at row j ≡ reached n ds ns bs ss p row₀ j
-    pub above : (bs : ℕ → MarkBox) → Sound (view n p ds ns bs ss) → min made (reached n ds ns bs ss p row₀ d) ≤ k
+module _ (n : ℕ) (ds ns ss : List ℕ) (row : List ℕ) (at d k : ℕ) where
+  -- The row counts the last mark.
+  pub seen-all : k ≤ rowFn row d → SeenFrom n ds ns ss row at d k k
+  seen-all h bs s = let u = under-up (view n at ds ns bs ss) (λ d. 0) (rowFn row) d in omega arith
 
-  pub seen-start : (q : ℕ) → length row₀ ≡ n → Down ds ns bf d p made q → SeenTo row₀ p made q
-  seen-start q l x = record { turns = omega arith; back = omega arith; chain = x; long = l; same-reach = λ bs j lo hi. refl; above = λ bs s. omega arith }
+  -- It does not: the mark stands before the place.
+  module _ (bf : List ℕ) (q : ℕ) (x : Down ds ns bf d at k q) (h : rowFn row d < k) where
+    stands : (1 ≤ q) × (q ≤ at) × (nameAt ds ns (q - 1) ≡ record { desk = d; number = k }) × Down ds ns bf d (q - 1) (k - 1) (getD bf (q - 1) 0)
+    stands = down-some ds ns bf d at k q (omega arith) x
 
-  module _ (row : List ℕ) (at k q : ℕ) (w : SeenTo row at k q) (lo : 1 ≤ d) (hi : d ≤ n) where
-    -- Mark k is counted.
-    pub seen-all : k ≤ rowFn row d → (bs : ℕ → MarkBox) → Sound (view n p ds ns bs ss) → min made (reached n ds ns bs ss p row₀ d) ≡ k
-    seen-all h bs s =
-        let t = w .turns in
-        let a = w .above bs s in
-        let e = w .same-reach bs d lo hi in
-        let u = under-up (view n at ds ns bs ss) (λ d. 0) (rowFn row) d in
-        omega arith
+    pub seen-some : 1 ≤ at
+    seen-some = let y = stands .0 in let z = stands .1 in omega arith
 
-    module _ (h : rowFn row d < k) where
-      -- It stands before `at`.
-      stands : (1 ≤ q) × (q ≤ at) × (nameAt ds ns (q - 1) ≡ record { desk = d; number = k }) × Down ds ns bf d (q - 1) (k - 1) (getD bf (q - 1) 0)
-      stands = down-some ds ns bf d at k q (omega arith) (w .chain)
+    -- Its place is met: it is not reached.
+    module _ (e : at ≡ q) (lo : 1 ≤ d) where
+      here : nameAt ds ns (at - 1) ≡ record { desk = d; number = k }
+      here = rw e (stands .2)
 
-      pub seen-place : (1 ≤ q) × (q ≤ at) × (at ≤ p)
-      seen-place = (stands .0, stands .1, w .back)
+      passed : (bs : ℕ → MarkBox) → reached n ds ns bs ss (at - 1) row d ≡ reached n ds ns bs ss at row d
+      passed bs =
+          let u : getD ds (at - 1) 0 ≡ d = ap (λ (i : MarkId). i .desk) here in
+          let v : getD ns (at - 1) 0 ≡ k = ap (λ (i : MarkId). i .number) here in
+          let z = seen-some in
+          reach-passed n ds ns bs ss at row (omega arith) (rw (u, v) h) d lo
 
-      -- Its place is met: it does not precede.
-      module _ (e : at ≡ q) where
-        here : nameAt ds ns (at - 1) ≡ record { desk = d; number = k }
-        here = rw e (stands .2)
+      out : (bs : ℕ → MarkBox) → Sound (view n at ds ns bs ss) → leb k (reached n ds ns bs ss (at - 1) row d) ≡ false
+      out bs s =
+          let i : MarkId = record { desk = d; number = k } in
+          let z = seen-some in
+          let none : has i (ids (view n (at - 1) ds ns bs ss)) ≡ false = nT→eq (has i (ids (view n (at - 1) ds ns bs ss))) (not-T (has i (ids (view n (at - 1) ds ns bs ss)))
+          (λ t. not-before n ds ns bs ss at (at - 1) (at - 1) s (omega arith) (omega arith) (subst (λ (y : MarkId). T (has y (ids (view n (at - 1) ds ns bs ss)))) (sym here) t))) in
+          reach-end n ds ns bs ss i (at - 1) (at - 1) row h (omega arith) (sound-below n at ds ns bs ss s (at - 1) (omega arith)) none (omega arith)
 
-        passed : (bs : ℕ → MarkBox) (j : ℕ) → 1 ≤ j → j ≤ n → reached n ds ns bs ss (at - 1) row j ≡ reached n ds ns bs ss p row₀ j
-        passed bs j lo hi =
-            let x = stands .0 in
-            let u : getD ds (at - 1) 0 ≡ d = ap (λ (i : MarkId). i .desk) here in
-            let v : getD ns (at - 1) 0 ≡ k = ap (λ (i : MarkId). i .number) here in
-            reach-passed n ds ns bs ss at row (omega arith) (rw (u, v) h) j lo ∙ w .same-reach bs j lo hi
+      pub own-down : Down ds ns bf d (at - 1) (k - 1) (getD bf (at - 1) 0)
+      own-down = rw e (stands .3)
 
-        not-seen : (bs : ℕ → MarkBox) → Sound (view n p ds ns bs ss) → leb k (reached n ds ns bs ss p row₀ d) ≡ false
-        not-seen bs s =
-            let i : MarkId = record { desk = d; number = k } in
-            let x = stands .0 in
-            let b = w .back in
-            let out : has i (ids (view n (at - 1) ds ns bs ss)) ≡ false = nT→eq (has i (ids (view n (at - 1) ds ns bs ss))) (not-T (has i (ids (view n (at - 1) ds ns bs ss)))
-            (λ t. not-before n ds ns bs ss p (at - 1) (at - 1) s (omega arith) (omega arith) (subst (λ (y : MarkId). T (has y (ids (view n (at - 1) ds ns bs ss)))) (sym here) t))) in
-            ap (leb k) (sym (passed bs d lo hi)) ∙ reach-end n ds ns bs ss i (at - 1) (at - 1) row h (omega arith) (sound-below n p ds ns bs ss s (at - 1) (omega arith)) out (omega arith)
+      pub seen-own : (r : ℕ) → SeenFrom n ds ns ss row (at - 1) d (k - 1) r → SeenFrom n ds ns ss row at d k r
+      seen-own r f bs s =
+          let y = f bs (sound-below n at ds ns bs ss s (at - 1) (omega arith)) in
+          let z = passed bs in
+          let o = leb-false k (reached n ds ns bs ss (at - 1) row d) (out bs s) in
+          omega arith
 
-        pub seen-own : SeenTo row (at - 1) (k - 1) (getD bf (at - 1) 0)
-        seen-own =
-            let t = w .turns in
-            let b = w .back in
-            record {
-              turns = omega arith;
-              back = omega arith;
-              chain = rw e (stands .3);
-              long = w .long;
-              same-reach = passed;
-              above = λ bs s. let y = leb-false k (reached n ds ns bs ss p row₀ d) (not-seen bs s) in omega arith;
-            }
+    -- The place of another mark is met.
+    pub other-down : (at ≡ q → ⊥) → Down ds ns bf d (at - 1) k q
+    other-down f = let o : ¬ (at ≡ q) = f in let y = stands .1 in down-less ds ns bf d at (at - 1) k q (omega arith) x
 
-      -- Another mark's place is met.
-      module _ (e : at ≡ q → ⊥) where
-        on : (row′ : List ℕ) → length row′ ≡ n → ((bs : ℕ → MarkBox) (j : ℕ) → 1 ≤ j → j ≤ n → reached n ds ns bs ss (at - 1) row′ j ≡ reached n ds ns bs ss at row j) → SeenTo row′ (at - 1) k q
-        on row′ long f =
-            let o : ¬ (at ≡ q) = e in
-            let x = stands .1 in
-            let b = w .back in
-            record {
-              turns = w .turns;
-              back = omega arith;
-              chain = down-less ds ns bf d at (at - 1) k q (omega arith) (w .chain);
-              long = long;
-              same-reach = λ bs j lo hi. f bs j lo hi ∙ w .same-reach bs j lo hi;
-              above = w .above;
-            }
+    -- It is counted, and its row is joined; or it is not.
+    module _ (lo : 1 ≤ d) where
+      pub joined-same : d ≤ n → Named n at ds → getD ns (at - 1) 0 ≤ rowFn row (getD ds (at - 1) 0) → (row′ : List ℕ) → ((j : ℕ) → j < n → getD row′ j 0 ≡ max (getD row j 0) (getD ss ((at - 1) * n + j) 0))
+          → (bs : ℕ → MarkBox) → reached n ds ns bs ss (at - 1) row′ d ≡ reached n ds ns bs ss at row d
+      joined-same hi f c row′ g bs = let z = seen-some in reach-joined n ds ns bs ss at row row′ (omega arith) f c g d lo hi
 
-        -- It is counted, and its row is joined.
-        pub seen-join : Named n p ds → getD ns (at - 1) 0 ≤ rowFn row (getD ds (at - 1) 0)
-            → (row′ : List ℕ) → length row′ ≡ n → ((j : ℕ) → j < n → getD row′ j 0 ≡ max (getD row j 0) (getD ss ((at - 1) * n + j) 0)) → SeenTo row′ (at - 1) k q
-        seen-join f c row′ long g =
-            let x = stands in
-            let y = x .0 in
-            let z = x .1 in
-            on row′ long (λ bs j lo hi. reach-joined n ds ns bs ss at row row′ (omega arith) (named-less n p ds at f (w .back)) c g j lo hi)
+      pub passed-same : rowFn row (getD ds (at - 1) 0) < getD ns (at - 1) 0 → (bs : ℕ → MarkBox) → reached n ds ns bs ss (at - 1) row d ≡ reached n ds ns bs ss at row d
+      passed-same c bs = let z = seen-some in reach-passed n ds ns bs ss at row (omega arith) c d lo
 
-        -- It is not.
-        pub seen-pass : rowFn row (getD ds (at - 1) 0) < getD ns (at - 1) 0 → SeenTo row (at - 1) k q
-        seen-pass c =
-            let x = stands in
-            let y = x .0 in
-            let z = x .1 in
-            on row (w .long) (λ bs j lo hi. reach-passed n ds ns bs ss at row (omega arith) c j lo)
+  pub seen-on : (row′ : List ℕ) (r : ℕ) → ((bs : ℕ → MarkBox) → reached n ds ns bs ss (at - 1) row′ d ≡ reached n ds ns bs ss at row d) → SeenFrom n ds ns ss row′ (at - 1) d k r → SeenFrom n ds ns ss row at d k r
+  seen-on row′ r e f bs s = f bs (sound-below n at ds ns bs ss s (at - 1) (omega arith)) ∙ ap (min k) (e bs)
 
-  -- What is found, of marks made.
-  pub seen-of : (r : ℕ) → Named n p ds → 1 ≤ d → d ≤ n → ((j : ℕ) → j < n → getD row₀ j 0 ≡ getD ss (p * n + j) 0)
-      → ((bs : ℕ → MarkBox) → Sound (view n p ds ns bs ss) → min made (reached n ds ns bs ss p row₀ d) ≡ r) → SeenOf n ds ns ss p d made r
-  seen-of r f lo hi er e count bs h s k pos few =
-      reached-counts n ds ns bs ss count p h f s row₀ er (record { desk = d; number = k }) lo hi pos ∙ up-to (reached n ds ns bs ss p row₀ d) ∙ ap (leb k) (e bs (sound-below n count ds ns bs ss s p (omega arith)))
-    where
-      up-to : (R : ℕ) → leb k R ≡ leb k (min made R)
-      up-to R = go (leb k R) refl
-        where
-          go : (b : Bool) → leb k R ≡ b → b ≡ leb k (min made R)
-          go true q = let l = leb-true k R q in sym (le-leb k (min made R) (omega arith))
-          go false q = let l = leb-false k R q in sym (lt-leb k (min made R) (omega arith))
+-- Of the first `made` marks of desk d those up to number r precede the mark at place p.
+abbrev pub SeenOf : ℕ → List ℕ → List ℕ → List ℕ → ℕ → ℕ → ℕ → ℕ → Type 0
+SeenOf n ds ns ss p d made r = (count : ℕ) (bs : ℕ → MarkBox) → p < count → Sound (view n count ds ns bs ss) → (k : ℕ) → 1 ≤ k → k ≤ made
+    → precedes (view n count ds ns bs ss) (record { desk = d; number = k }) (nameAt ds ns p) ≡ leb k r
+
+-- They are reached from the row of its stamp.
+pub seen-of : (n : ℕ) (ds ns ss row : List ℕ) (p d made r : ℕ) → Named n p ds → 1 ≤ d → d ≤ n → ((j : ℕ) → j < n → getD row j 0 ≡ getD ss (p * n + j) 0)
+    → SeenFrom n ds ns ss row p d made r → SeenOf n ds ns ss p d made r
+seen-of n ds ns ss row p d made r f lo hi er e count bs h s k pos few =
+    reached-counts n ds ns bs ss count p h f s row er (record { desk = d; number = k }) lo hi pos ∙ up-to (reached n ds ns bs ss p row d) ∙ ap (leb k) (sym (e bs (sound-below n count ds ns bs ss s p (omega arith))))
+  where
+    up-to : (R : ℕ) → leb k R ≡ leb k (min made R)
+    up-to R = go (leb k R) refl
+      where
+        go : (b : Bool) → leb k R ≡ b → b ≡ leb k (min made R)
+        go true q = let l = leb-true k R q in sym (le-leb k (min made R) (omega arith))
+        go false q = let l = leb-false k R q in sym (lt-leb k (min made R) (omega arith))

@@ -2,7 +2,7 @@
 use mathlib.Core.Bool.{Bool, true, false}
 use mathlib.Core.List.{List, [], _∷_}
 use mathlib.Core.Path.{_≡_}
-use Prim.Native.Nat.{ℕ, zero, suc, _-_, _≤_, _<_}
+use Prim.Native.Nat.{ℕ, zero, suc, min, _-_, _≤_, _<_}
 use lib.Dec.{T, leb, ltb}
 use lib.ListN.{length, getD}
 use Rattle.frame.specs.declared.MarkBox.{MarkBox}
@@ -51,10 +51,9 @@ abbrev pub Down : List ℕ → List ℕ → List ℕ → ℕ → ℕ → ℕ →
 Down ds ns bf d at zero q = Unit {0}
 Down ds ns bf d at (suc k) q = (1 ≤ q) × (q ≤ at) × (nameAt ds ns (q - 1) ≡ record { desk = d; number = suc k }) × Down ds ns bf d (q - 1) k (getD bf (q - 1) 0)
 
--- Of the first `made` marks of desk d those up to number r precede the mark at place p. n: how many desks.
-abbrev pub SeenOf : ℕ → List ℕ → List ℕ → List ℕ → ℕ → ℕ → ℕ → ℕ → Type 0
-SeenOf n ds ns ss p d made r = (count : ℕ) (bs : ℕ → MarkBox) → p < count → Sound (view n count ds ns bs ss) → (k : ℕ) → 1 ≤ k → k ≤ made
-    → precedes (view n count ds ns bs ss) (record { desk = d; number = k }) (nameAt ds ns p) ≡ leb k r
+-- Of the first k marks of desk d, r are reached from a row and the marks before a place. n: how many desks.
+abbrev pub SeenFrom : ℕ → List ℕ → List ℕ → List ℕ → List ℕ → ℕ → ℕ → ℕ → ℕ → Type 0
+SeenFrom n ds ns ss row at d k r = (bs : ℕ → MarkBox) → Sound (view n at ds ns bs ss) → r ≡ min k (under (view n at ds ns bs ss) (λ d. 0) (rowFn row) d)
 
 -- The marks apart from that at place p, of the first `count`.
 pub record ApartAt (ds ns ss : List ℕ) (count p : ℕ) (r : Listed) : Type 0 where

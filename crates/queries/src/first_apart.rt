@@ -1,13 +1,14 @@
 // First apart: the lowest number of a desk's marks that were executed before a mark and are concurrent with it.
 ghost use mathlib.Core.Path.{_≡_};
-ghost use Prim.Native.Nat.{_≤_, _<_};
+ghost use Prim.Native.Nat.{_≤_};
+ghost use lib.ListN.{length};
 ghost use Rattle.causality.specs.Calls.{firstApart};
 ghost use Rattle.causality.specs.Marks.{places};
 ghost use Rattle.causality.specs.Meaning.{idOf, lowestGiven};
 ghost use Rattle.executed.specs.Rows.{HasChain};
 ghost use Rattle.rows.specs.View.{width, Named};
 ghost use Rattle.queries.specs.Lent.{HasLent, OfEach};
-ghost use Rattle.queries.specs.Steps.{MadeBefore, Down, SeenOf};
+ghost use Rattle.queries.specs.Steps.{MadeBefore, Down, SeenFrom};
 use causality::Lowest;
 use causality::MarkId;
 use causality::Place;
@@ -50,37 +51,47 @@ fn made_before<'a>(
     Made { count: k, last: q }
 }
 
-// How many of the marks of a desk made before place p precede the mark at p: a first run of numbers, so k runs down to the last of them.
-// Entries are followed down from p until the row counts mark k. Where they come to its place first, plus 1 that is q, it does not precede.
+// How many of the first k marks of a desk are reached by entries, from a lent row and the marks before a place: a first run of numbers.
+// Follows entries down until the row counts mark k. Where the place of k is met first, plus 1 that is q, mark k is not reached: k − 1 is next.
+// The place of the examined mark falls at each call.
 fn seen<'a>(
     desks: &'a [u8; PLACES],
     numbers: &'a [u16; PLACES],
     stamps: &'a [u16; PLACES * WIDTH],
     before: &'a [u16; PLACES],
-    p: Place,
+    row: &mut [u16; WIDTH],
+    at: Place,
     desk: u8,
-    made: Made,
+    k: u16,
+    q: usize,
 ) -> u16
-    requires { ⌜ (p .0 < places) × Named width (p .0) (now desks) × (1 ≤ desk) × (desk ≤ width)
-        × Down (now desks) (now numbers) (now before) desk (p .0) (made .count) (made .last) ⌝ }
-    ensures { λ r. ⌜ SeenOf width (now (desks .entry)) (now (numbers .entry)) (now (stamps .entry)) (p .0) desk (made .count) r ⌝ }
+    requires { ⌜ (at .0 ≤ places) × Named width (at .0) (now desks) × (length (now row) ≡ width) × (1 ≤ desk) × (desk ≤ width)
+        × Down (now desks) (now numbers) (now before) desk (at .0) k q ⌝ }
+    ensures { λ r. ⌜ SeenFrom width (now (desks .entry)) (now (numbers .entry)) (now (stamps .entry)) (now (row .entry))
+        (at .0) desk k r ⌝ }
 {
-    let d = desk as usize - 1;
-    let mut row = rows::row_at(stamps, p.0);
-    let mut at = p.0;
-    let mut k = made.count;
-    let mut q = made.last;
-    while row[d] < k {
-        let i = at - 1;
-        if at == q {
-            q = wide(before[i]);
-            k -= 1;
-        } else if numbers[i] <= row[desks[i] as usize - 1] {
-            rows::join(stamps, i, &mut row);
-        }
-        at = i;
+    if k <= row[desk as usize - 1] {
+        return k;
     }
-    k
+    let i = at.0 - 1;
+    if at.0 == q {
+        let next = wide(before[i]);
+        return seen(
+            desks,
+            numbers,
+            stamps,
+            before,
+            row,
+            Place(i),
+            desk,
+            k - 1,
+            next,
+        );
+    }
+    if numbers[i] <= row[desks[i] as usize - 1] {
+        rows::join(stamps, i, row);
+    }
+    seen(desks, numbers, stamps, before, row, Place(i), desk, k, q)
 }
 
 pub fn first_apart<'a>(
@@ -104,9 +115,20 @@ pub fn first_apart<'a>(
         return Lowest::Refused(Refusal::NotExecuted);
     }
     let made = made_before(tally, last, before, desk, Place(p));
-    let count = made.count;
-    let n = seen(desks, numbers, stamps, before, Place(p), desk, made);
-    if n < count {
+    let k = made.count;
+    let mut row = rows::row_at(stamps, p);
+    let n = seen(
+        desks,
+        numbers,
+        stamps,
+        before,
+        &mut row,
+        Place(p),
+        desk,
+        k,
+        made.last,
+    );
+    if n < k {
         return Lowest::Number(Number(n + 1));
     }
     Lowest::None

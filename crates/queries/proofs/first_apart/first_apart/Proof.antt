@@ -3,6 +3,7 @@ use mathlib.Core.Bool.{true}
 use mathlib.Core.List.{List}
 use mathlib.Core.Path.{_∙_, _≡_, ap, sym}
 use Prim.Native.Nat.{_≤_, ℕ}
+use lib.ListN.{length}
 use borrow.Author.Needs.{needs}
 use borrow.Author.Tests.{not-false, not-true}
 use native.Mathlib.Numerals.{add-one}
@@ -18,11 +19,12 @@ use Rattle.causality.proofs.Fit.{desk-facts}
 use Rattle.causality.proofs.Reach.{Sound}
 use Rattle.executed.specs.Rows.{Lent}
 use Rattle.executed.proofs.Chain.{found-inside}
-use Rattle.rows.specs.View.{view, width}
+use Rattle.rows.specs.View.{Named, view, width}
 use Rattle.rows.proofs.RowSteps.{named-less}
 use Rattle.queries.specs.Lent.{lent}
 use Rattle.queries.proofs.FirstApart.{first-lowest, first-no-desk, first-none}
 use Rattle.queries.proofs.MadeBefore.{made-down}
+use Rattle.queries.proofs.Seen.{seen-of}
 use Rattle.queries.proofs.first_apart.first_apart.Statement.{statement}
 use Rattle.queries.proofs.first_apart.first_apart.Tie as tie
 
@@ -42,27 +44,45 @@ returns-2 c count own bs waiting l sound = let f = c .before in sym (first-none 
 made-before-requires : tie.Need-made-before-requires
 made-before-requires c κs = let r = in-range (c .before .before) in (search needs, r .0, r .1)
 
+-- The marks before the place found are of desks.
+named : (c : tie.Else2) → let f = c .before in Named width (f .find .result) (f .before .before .before .args .desks .now)
+named c =
+    let f = c .before in
+    let s = f .before .before .before in
+    let m = s .pre .marks in
+    let i = found-inside _ _ _ _ _ _ m _ _ (f .find .ensures) (c .if2 .left) in
+    named-less width (s .pre .count) _ _ (m .named) (omega arith)
+
+-- The row of the place has a count for each desk.
+row-long : (c : tie.After-row) → length (c .before .row-at .result) ≡ width
+row-long c = search (needs, c .before .row-at .ok)
+
 seen-requires : tie.Need-seen-requires
 seen-requires c κs =
-    let e = c .before in
+    let d = c .before .before .before in
+    let e = d .before in
     let f = e .before in
     let s = f .before .before .before in
     let m = s .pre .marks in
     let r = in-range (f .before) in
-    let i = found-inside _ _ _ _ _ _ m _ _ (f .find .ensures) (e .if2 .left) in
-    (e .if2 .left, named-less width (s .pre .count) _ _ (m .named) (omega arith), r .0, r .1, made-down (s .pre .count) _ _ _ _ _ _ _ _ _ m (c .made-before .ensures) (omega arith))
+    let z = e .if2 .left in
+    let i = found-inside _ _ _ _ _ _ m _ _ (f .find .ensures) z in
+    (omega arith, named e, row-long c, r .0, r .1, made-down (s .pre .count) _ _ _ _ _ _ _ _ _ m (d .made-before .ensures) (omega arith))
 
 -- What is given once the marks before the place are counted, and those of them that precede.
-given : (c : tie.After-seen) → let m = c .before in
+given : (c : tie.After-seen) → let m = c .before .before .before .before in
     let a = m .before .before .before .before .before .args in
     (count own : ℕ) (bs : ℕ → MarkBox) (waiting : List Mark) → Lent count (a .desks .now) (a .numbers .now) (a .tally .now) (a .last .now) (a .before .now)
     → Sound (view width count (a .desks .now) (a .numbers .now) bs (a .stamps .now))
     → firstApart width (lent count (a .desks .now) (a .numbers .now) (a .stamps .now) own bs waiting) (idOf (a .a)) (a .desk) ≡ gives (lowestAbove (c .seen .result) (m .made-before .result .count))
 given c count own bs waiting l sound =
-    let m = c .before in
+    let r = c .before .before in
+    let m = r .before .before in
     let e = m .before in
     let f = e .before in
-    first-lowest _ _ _ _ _ _ _ l own bs waiting _ _ (f .find .ensures) _ (is-desk (f .before)) (e .if2 .left) sound (c .seen .result) _ _ (m .made-before .ensures) (c .seen .ensures)
+    let o = in-range (f .before) in
+    first-lowest _ _ _ _ _ _ _ l own bs waiting _ _ (f .find .ensures) _ (is-desk (f .before)) (e .if2 .left) sound (c .seen .result) _ _ (m .made-before .ensures)
+    (seen-of width _ _ _ (r .row-at .result) _ _ _ _ (named e) (o .0) (o .1) (r .row-at .ensures) (c .seen .ensures))
 
 returns-3 : tie.Need-returns-3
 returns-3 c count own bs waiting l sound = sym (given (c .before) count own bs waiting l sound ∙ ap gives (above-yes _ _ (c .if3 .taken) ∙ sym (add-one _)))
@@ -79,6 +99,7 @@ first-apart-spec =
     (λ c κs. search needs)
     returns-2
     made-before-requires
+    (λ c κs. search needs)
     seen-requires
     (λ c. search needs)
     returns-3
