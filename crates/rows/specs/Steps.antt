@@ -1,12 +1,18 @@
 -- What the inner functions do to lent rows and arrays. Inner: need not be believed.
+use mathlib.Core.Bool.{Bool, false, _&&_, _||_}
 use mathlib.Core.Path.{_≡_}
 use mathlib.Core.List.{List}
-use Prim.Native.Nat.{ℕ, suc, max, _+_, _*_, _≤_, _<_}
-use lib.ListN.{length, getD, set}
+use Prim.Native.Nat.{ℕ, suc, max, _+_, _-_, _*_, _≤_, _<_}
+use lib.Dec.{ltb}
+use lib.ListN.{length, getD, set, take}
+use Rattle.frame.specs.Frame.{entryBytes}
 use Rattle.frame.specs.declared.MarkBox.{MarkBox}
-use Rattle.causality.proofs.RowLaws.{under}
+use Rattle.causality.specs.Marks.{has}
+use Rattle.causality.specs.State.{ids}
+use Rattle.causality.proofs.Reach.{Sound}
+use Rattle.causality.proofs.RowLaws.{entriesOfRow, under}
 use Rattle.rows.specs.declared.Held.{Held}
-use Rattle.rows.specs.View.{width, rowFn, view, boxAt, SameOutside}
+use Rattle.rows.specs.View.{width, rowFn, view, boxAt, someReached, SameOutside}
 
 -- A row joined with row p of the stamps: at each desk the greater count.
 pub record Joined (ss : List ℕ) (p : ℕ) (before after : List ℕ) : Type 0 where
@@ -18,6 +24,20 @@ pub record Traced (ds ns ss entries : List ℕ) (at : ℕ) (before : List ℕ) (
   pub long : length after ≡ width
   pub same-pass : (bs : ℕ → MarkBox) (j : ℕ) → j < width
       → under (view width to ds ns bs ss) (rowFn entries) (rowFn after) (suc j) ≡ under (view width at ds ns bs ss) (rowFn entries) (rowFn before) (suc j)
+
+-- No mark that a row names is among the first r of so many, whatever their stamps.
+abbrev pub NamedFrom : List ℕ → List ℕ → List ℕ → ℕ → ℕ → Type 0
+NamedFrom ds ns row count r = (bs : ℕ → MarkBox) (ss : List ℕ) → Sound (view width count ds ns bs ss)
+    → (j : ℕ) → j < width → 0 < getD row j 0 → has (record { desk = suc j; number = getD row j 0 }) (ids (view width r ds ns bs ss)) ≡ false
+
+-- The false-stamp test by rows: an entry precedes another, or the previous mark of the desk neither is an entry nor precedes one.
+abbrev pub falseBy : List ℕ → List ℕ → ℕ → ℕ → Bool
+falseBy entries below d n = someReached width entries below || (ltb 1 n && ltb (max (getD entries (d - 1) 0) (getD below (d - 1) 0)) (n - 1))
+
+-- The first so many bytes are the entries of a row.
+abbrev pub EntriesIn : List ℕ → List ℕ → ℕ → Type 0
+EntriesIn row bytes size = (size ≤ width * 3) × (take size bytes ≡ entryBytes (entriesOfRow width (rowFn row)))
+    × (size ≡ length (entryBytes (entriesOfRow width (rowFn row))))
 
 -- Slot p is one of the arrays'.
 pub record HasSlot (p : ℕ) (ds ns bs ss : List ℕ) : Type 0 where

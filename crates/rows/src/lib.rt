@@ -1,19 +1,15 @@
 // The engine's inner functions over lent arrays and rows by value: one count for each desk.
 ghost use mathlib.Core.Path.{_≡_};
-ghost use mathlib.Core.Bool.{false, _&&_, _||_};
-ghost use mathlib.Core.List.{List};
+ghost use mathlib.Core.Bool.{false, _&&_};
 ghost use Prim.Native.Nat.{ℕ, suc, max, _+_, _-_, _*_, _≤_, _<_};
-ghost use lib.Dec.{leb, ltb};
-ghost use lib.ListN.{length, getD, take};
-ghost use Rattle.frame.specs.Frame.{entriesOf, entryBytes};
+ghost use lib.Dec.{leb};
+ghost use lib.ListN.{length, getD};
+ghost use Rattle.frame.specs.Frame.{entriesOf};
 ghost use Rattle.frame.specs.declared.MarkBox.{MarkBox};
 ghost use Rattle.causality.specs.Marks.{places, has};
-ghost use Rattle.causality.specs.State.{ids};
 ghost use Rattle.causality.proofs.Rows.{rowOf};
-ghost use Rattle.causality.proofs.Reach.{Sound};
-ghost use Rattle.causality.proofs.RowLaws.{entriesOfRow};
-ghost use Rattle.rows.specs.View.{width, rowFn, view, markAt, heldMark, Named, allWithin, someReached, namesIn, sameCounts, boxAt, SameOutside};
-ghost use Rattle.rows.specs.Steps.{Joined, Traced, HasSlot, Stored};
+ghost use Rattle.rows.specs.View.{width, rowFn, markAt, heldMark, Named, allWithin, namesIn, sameCounts, boxAt, SameOutside};
+ghost use Rattle.rows.specs.Steps.{Joined, Traced, NamedFrom, EntriesIn, HasSlot, Stored, falseBy};
 use causality::Place;
 use frame::DESKS;
 use frame::MarkBox;
@@ -118,7 +114,7 @@ pub fn oldest<'a>(
     count: usize,
 ) -> usize
     requires { ⌜ (count ≤ places) × Named width count (now desks) ⌝ }
-    ensures { λ r. ⌜ (r ≤ count) × ((bs : ℕ → MarkBox) (ss : List ℕ) → Sound (view width count (now (desks .entry)) (now (numbers .entry)) bs ss) → (j : ℕ) → j < width → 0 < getD row j 0 → has (record { desk = suc j; number = getD row j 0 }) (ids (view width r (now (desks .entry)) (now (numbers .entry)) bs ss)) ≡ false) ⌝ }
+    ensures { λ r. ⌜ (r ≤ count) × NamedFrom (now (desks .entry)) (now (numbers .entry)) row count r ⌝ }
 {
     let mut left = names(row);
     let mut p = count;
@@ -158,7 +154,7 @@ pub fn ready(tally: [u16; WIDTH], desk: u8, number: u16, row: [u16; WIDTH]) -> b
 // The false-stamp test, by the row of a stamp and the row of the marks that precede an entry of it.
 pub fn false_stamp(entries: [u16; WIDTH], below: [u16; WIDTH], desk: u8, number: u16) -> bool
     requires { ⌜ (1 ≤ desk) × (desk ≤ width) ⌝ }
-    ensures { λ r. ⌜ r ≡ (someReached width entries below || (ltb 1 number && ltb (max (getD entries (desk - 1) 0) (getD below (desk - 1) 0)) (number - 1))) ⌝ }
+    ensures { λ r. ⌜ r ≡ falseBy entries below desk number ⌝ }
 {
     let mut j = 0;
     while j < WIDTH {
@@ -203,7 +199,7 @@ pub struct Entries {
 }
 
 pub fn entries_of(row: [u16; WIDTH]) -> Entries
-    ensures { λ r. ⌜ (r .size ≤ width * 3) × (take (r .size) (r .bytes) ≡ entryBytes (entriesOfRow width (rowFn row))) × (r .size ≡ length (entryBytes (entriesOfRow width (rowFn row)))) ⌝ }
+    ensures { λ r. ⌜ EntriesIn row (r .bytes) (r .size) ⌝ }
 {
     let mut bytes = [0u8; WIDTH * 3];
     let mut size = 0;
