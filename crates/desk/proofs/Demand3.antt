@@ -9,16 +9,16 @@ use Rattle.desk.specs.declared.CreatedDesk.{CreatedDesk}
 use Rattle.frame.specs.Mark.{desks, isDesk}
 use Rattle.causality.specs.Calls.{mark, new, receive, relate}
 use Rattle.causality.specs.Marks.{All}
-use Rattle.causality.specs.Meaning.{idOf, numbering, reception}
+use Rattle.causality.specs.Meaning.{idOf}
 use Rattle.causality.specs.State.{State}
-use Rattle.desk.specs.Demand3.{CallRun, CallsAgree, Demand3Calls, Runs, marks, misses, receives, starts, statesOf}
+use Rattle.desk.specs.Demand3.{CallRun, CallsAgree, Demand3Calls, Runs, afterMark, afterMiss, afterReceive, marks, misses, receives, starts, statesOf}
 use Rattle.desk.specs.Promises.{NewPromise}
 use Rattle.desk.specs.StateOf.{stateOf}
 use Rattle.history.specs.Demand3.{Agree}
-use Rattle.history.specs.Plain.{Unmade, look, ofMark, ofReceive, plain}
+use Rattle.history.specs.Plain.{look, ofMark, ofReceive, plain}
 use Rattle.history.specs.Run.{Run, Step, deskOf, fed, handing, marking, run, runStep, written}
 use Rattle.history.proofs.MarkRun.{fresh}
-use Rattle.history.proofs.Theorem.{demand3}
+use Rattle.history.proofs.Theorem.{consequences, demand3}
 
 module _ (fresh : ℕ → CreatedDesk) (news : (d : ℕ) → NewPromise d (fresh d)) where
   -- The state of a desk of the run is that of the table of states.
@@ -35,8 +35,7 @@ module _ (fresh : ℕ → CreatedDesk) (news : (d : ℕ) → NewPromise d (fresh
   same-run starts = refl
   same-run (marks {s = s} {c = c} rs d b lent after r p) = one ∙ ap (λ (x : Run). runStep desks x (marking d b lent)) (same-run rs)
     where
-      one : statesOf (record { given = (d, r .desk) ∷ c .given; frames = written d (numbering (r .answer)) after (c .frames); answers = ofMark (numbering (r .answer)) ∷ c .answers })
-          ≡ runStep desks (statesOf c) (marking d b lent)
+      one : statesOf (afterMark c d r after) ≡ runStep desks (statesOf c) (marking d b lent)
       one =
           let sa = state-at (c .given) d in
           let state = p .state ∙ ap (λ (x : State). (mark desks x b lent) .state) sa in
@@ -45,7 +44,7 @@ module _ (fresh : ℕ → CreatedDesk) (news : (d : ℕ) → NewPromise d (fresh
           λ k. record { states = (d, state k) ∷ map (λ x. (x .0, stateOf (x .1))) (c .given); frames = written d (answer k) (bytes k) (c .frames); answers = ofMark (answer k) ∷ c .answers }
   same-run (receives {s = s} {c = c} rs d i f e r p) = one ∙ ap (λ (x : Run). runStep desks x (handing d i)) (same-run rs)
     where
-      one : statesOf (record { given = (d, r .desk) ∷ c .given; frames = c .frames; answers = ofReceive (reception (r .answer)) ∷ c .answers }) ≡ runStep desks (statesOf c) (handing d i)
+      one : statesOf (afterReceive c d r) ≡ runStep desks (statesOf c) (handing d i)
       one =
           let sa = state-at (c .given) d in
           let state = p .state ∙ ap (λ (x : State). (receive desks x (f .bytes)) .state) sa in
@@ -53,12 +52,13 @@ module _ (fresh : ℕ → CreatedDesk) (news : (d : ℕ) → NewPromise d (fresh
           rw (e, runStep) (λ k. record { states = (d, state k) ∷ map (λ x. (x .0, stateOf (x .1))) (c .given); frames = c .frames; answers = ofReceive (answer k) ∷ c .answers })
   same-run (misses {s = s} {c = c} rs d i e) = one ∙ ap (λ (x : Run). runStep desks x (handing d i)) (same-run rs)
     where
-      one : statesOf (record { given = c .given; frames = c .frames; answers = Unmade ∷ c .answers }) ≡ runStep desks (statesOf c) (handing d i)
+      one : statesOf (afterMiss c) ≡ runStep desks (statesOf c) (handing d i)
       one = rw (e, runStep) refl
 
   calls-agree : (s : List Step) → All (λ t. T (isDesk desks (deskOf t))) s → (c : CallRun) → Runs fresh s c → CallsAgree fresh s c
   calls-agree s at c rs = record {
     agree = same;
+    follows = rw (same-run rs) (consequences desks s at);
     relates = λ d t a b r p. p .answer ∙ ap (λ (x : State). relate x (idOf a) (idOf b)) (state-at (c .given) d) ∙ same .desks d t .relates (idOf a) (idOf b);
   }
     where

@@ -12,15 +12,15 @@ use Rattle.frame.specs.declared.MarkBox.{MarkBox}
 use Rattle.frame.specs.Answer.{gives}
 use Rattle.frame.specs.Mark.{MarkId, boxRule, desks, isDesk}
 use Rattle.causality.specs.Answers.{After, Before, Concurrent, Same}
-use Rattle.causality.specs.Calls.{isExecuted, relate}
+use Rattle.causality.specs.Calls.{fieldsOfMark, isExecuted, relate}
 use Rattle.causality.specs.Marks.{All, find, has, same, waitingPlaces}
 use Rattle.causality.specs.State.{Mark, State, ids, ready}
-use Rattle.causality.proofs.Fit.{desk-facts, fit-entries}
+use Rattle.causality.proofs.Fit.{Fit, desk-facts, fit-entries, fit-read}
 use Rattle.causality.proofs.Kept.{kept}
 use Rattle.causality.proofs.Lists.{Picked, all-append, all-intro, all-map, find-all}
 use Rattle.causality.proofs.Logic.{T→eq, and-fst, and-snd, split}
 use Rattle.causality.proofs.Past.{Standing, precedes-past, ready-past}
-use Rattle.history.specs.Demand3.{Agree, AtDesk, Behind, Boxed, Consequences, Consequent, Demand3, boxed, madeBoxed, occurs}
+use Rattle.history.specs.Demand3.{Agree, AtDesk, Behind, Boxed, Consequences, Consequent, Demand3, boxed, frameRead, madeBoxed, madeRead, occurs}
 use Rattle.history.specs.Plain.{DeskLists, History, MadeMark, PlainStep, Unmade, frameSize, handOver, handOverAt, lastOfPast, leaveOut, listsAt, listsFull, madeId, madeIds, making, makingAt, ofMark, ofReceive, pastListed, pastOf, plain, relation}
 use Rattle.history.specs.Run.{Step, Written, deskOf, fed, run}
 use Rattle.history.proofs.Calls.{Unlisted, listsOf, made-ids, madeOf}
@@ -117,10 +117,19 @@ module _ (N : ℕ) (some-desk : 1 ≤ N) (s : List Step) (at : AtDesks N s) wher
   frames-all P [] a = tt
   frames-all P (m ∷ ms) a = (a .0, frames-all P ms (a .1))
 
+  -- Each frame reads back to its mark, and that is the made mark of the history.
+  read-fields : (past : MarkId → List MarkId) (ms : List Mark) → All (λ m. Fit N m) ms
+      → map (frameRead N) (map (framed N some-desk) ms) ≡ map madeRead (map (madeOf past) ms)
+  unfolding madeOf fieldsOfMark
+  read-fields past [] a = refl
+  read-fields past (m ∷ ms) a = λ k. record { id = m .id; fields = fit-read N m (a .0) k } ∷ read-fields past ms (a .1) k
+
   agree : Agree N (onFrames N some-desk (runMarks N s)) (plainOf s)
   unfolding lastOfPast
   agree = record {
     answers = inv .answers;
+    fields = read-fields (pastAt N some-desk s) ((runMarks N s) .made) (all-map (λ m x. x .fit) ((runMarks N s) .made) (inv .made))
+        ∙ sym (ap (λ (l : List MadeMark). map madeRead l) (inv .hist));
     frames = frames-all _ ((runMarks N s) .made) (all-map (λ m x. fit-entries N m (x .fit) ∙ x .stamp) ((runMarks N s) .made) (inv .made));
     desks = λ d t. at-desk d;
   }
@@ -153,7 +162,7 @@ demand3 N s at = elim (split (leb 1 N)) [
 ]
   where
     no-steps : N < 1 → (s : List Step) → AtDesks N s → Agree N (run N s) (plainOf s)
-    no-steps n [] at = record { answers = refl; frames = tt; desks = λ d t. absurd (no-desk N d n t) }
+    no-steps n [] at = record { answers = refl; fields = refl; frames = tt; desks = λ d t. absurd (no-desk N d n t) }
     no-steps n (t ∷ s) at = absurd (no-desk N (deskOf t) n (at .0))
 
 pub consequences : (N : ℕ) → Consequences N

@@ -4,16 +4,17 @@ use lib.Dec.{T, eqb}
 use mathlib.Core.Bool.{Bool, _||_, not, true}
 use mathlib.Core.List.{List, [], _++_, _∷_, map}
 use mathlib.Core.Path.{_≡_}
+use Rattle.frame.specs.declared.Fields.{Fields}
 use Rattle.frame.specs.declared.MarkBox.{MarkBox}
-use Rattle.frame.specs.Answer.{gives, refused}
-use Rattle.frame.specs.Frame.{edition, entriesOf, readEntries}
+use Rattle.frame.specs.Answer.{Answer, gives, refused}
+use Rattle.frame.specs.Frame.{edition, entriesOf, readEntries, readFields}
 use Rattle.frame.specs.Mark.{MarkId, desks, isDesk}
 use Rattle.causality.specs.Answers.{Executed, Known, Waiting}
 use Rattle.causality.specs.Calls.{relate}
 use Rattle.causality.specs.Marks.{All, all, has}
 use Rattle.causality.specs.State.{Mark, State, ids}
 use Rattle.history.specs.Plain.{DeskLists, History, MadeMark, StepAnswer, Unmade, lastOfPast, listsAt, ofMark, ofReceive, pastOf, plain, relation}
-use Rattle.history.specs.Run.{Run, Step, deskOf, fed, run, stateAt}
+use Rattle.history.specs.Run.{Run, Step, Written, deskOf, fed, run, stateAt}
 
 -- A mark with its box, at a desk and in the history.
 pub record Boxed : Type 0 where
@@ -25,6 +26,20 @@ boxed m = record { id = m .id; extent = m .extent }
 
 abbrev pub madeBoxed : MadeMark → Boxed
 madeBoxed x = record { id = x .id; extent = x .extent }
+
+-- What a frame that was written reads back to, and what its made mark gives: its name and box. And the entries of a frame.
+pub record FrameRead : Type 0 where
+  pub id : MarkId
+  pub fields : Answer Fields
+
+abbrev pub frameRead : ℕ → Written → FrameRead
+frameRead N f = record { id = f .id; fields = readFields (edition N) (f .bytes) }
+
+abbrev pub madeRead : MadeMark → FrameRead
+madeRead x = record { id = x .id; fields = gives (record { desk = x .id .desk; number = record { 0 = x .id .number }; extent = x .extent }) }
+
+abbrev pub entriesIn : ℕ → Written → List MarkId
+entriesIn N f = entriesOf (readEntries (edition N) (f .bytes))
 
 -- What is compared at one desk: its state, its lists in the history, and the marks made.
 pub record AtDesk (st : State) (ls : DeskLists) (made : List MadeMark) : Type 0 where
@@ -40,8 +55,10 @@ pub record AtDesk (st : State) (ls : DeskLists) (made : List MadeMark) : Type 0 
 pub record Agree (N : ℕ) (r : Run) (h : History) : Type 0 where
   -- "every answer of Mark and Receive, refusals included, and the machine's"
   pub answers : r .answers ≡ h .answers
+  -- The frames are those of the made marks, and each reads back: the entries of a frame that does not are none.
+  pub fields : map (frameRead N) (r .frames) ≡ map madeRead (h .made)
   -- "the entries of each made mark's stamp, in its frame .."
-  pub frames : All (λ f. entriesOf (readEntries (edition N) (f .bytes)) ≡ lastOfPast (h .made) (f .id)) (r .frames)
+  pub frames : All (λ f. entriesIn N f ≡ lastOfPast (h .made) (f .id)) (r .frames)
   pub desks : (d : ℕ) → T (isDesk N d) → AtDesk (stateAt N r d) (listsAt h d) (h .made)
 
 abbrev pub Demand3 : ℕ → Type 0
@@ -70,8 +87,7 @@ pub record Consequent (N : ℕ) (r : Run) (h : History) : Type 0 where
   pub lacking : (d : ℕ) → T (isDesk N d)
       → All (λ w. T (not (all (λ a. has a (ids ((stateAt N r d) .executed))) (pastOf (h .made) (w .id))))) ((stateAt N r d) .waiting)
   -- No entry of a frame happened before another.
-  pub direct : All (λ f. (a b : MarkId) → T (has a (entriesOf (readEntries (edition N) (f .bytes)))) → T (has b (entriesOf (readEntries (edition N) (f .bytes))))
-      → T (has a (pastOf (h .made) b)) → ⊥) (r .frames)
+  pub direct : All (λ f. (a b : MarkId) → T (has a (entriesIn N f)) → T (has b (entriesIn N f)) → T (has a (pastOf (h .made) b)) → ⊥) (r .frames)
   pub answers : All (λ a. T (occurs a)) (r .answers)
 
 abbrev pub Consequences : ℕ → Type 0
