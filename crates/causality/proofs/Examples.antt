@@ -1,5 +1,5 @@
--- The starred examples of document 01, computed by the calls on bytes: one check of the whole list. Assumes nothing.
-use Prim.Native.Nat.{ℕ}
+-- The examples, computed by the calls on bytes: one check of each list. Assumes nothing.
+use Prim.Native.Nat.{_-_, ℕ}
 use lib.Dec.{T}
 use lib.ListN.{replicate, take}
 use mathlib.Core.Bool.{Bool, _&&_, false, true}
@@ -10,10 +10,9 @@ use Rattle.frame.specs.Frame.{at2, at4, bytes2, bytes4, countBad, edition, entr
 use Rattle.frame.specs.Mark.{MarkId, boxRule, desks, isDesk, isNumber}
 use Rattle.causality.specs.Answers.{After, Before, Concurrent, Executed, Known, Reception, Relation, Same, Waiting}
 use Rattle.causality.specs.Calls.{apartOf, arrive, executing, fieldsOfMark, firstApart, frameOfMark, full, mark, markAnswer, markIn, new, newMark, receive, receiveMark, refuse, relate, sameBytes, sizeOfMark, unmade}
-use Rattle.causality.specs.Examples.{starred}
+use Rattle.causality.specs.Examples.{pinned, starred}
 use Rattle.causality.specs.Marks.{same}
 use Rattle.causality.specs.State.{State, concurrent, falseStamp, heads, ids, isHead, previous, ready}
-use Rattle.causality.proofs.Fit.{markSize}
 
 abbrev box : MarkBox
 box = record { start = 1_000; end = 1_500; low = 100; high = 400 }
@@ -26,7 +25,7 @@ abbrev marks : State → State
 marks st = (mark desks st box (replicate 71 0)) .state
 
 abbrev writes : State → List ℕ
-writes st = take (markSize 0 (newMark st box)) ((mark desks st box (replicate 71 0)) .bytes)
+writes st = elim ((mark desks st box (replicate 71 0)) .answer) [ gives n ↦ take (n .size) ((mark desks st box (replicate 71 0)) .bytes) | refused c ↦ [] ]
 
 abbrev receives : State → List (List ℕ) → State
 receives st [] = st
@@ -66,9 +65,12 @@ f41 = writes (receives (fresh 4) (f11 ∷ f31 ∷ f32 ∷ []))
 abbrev desk3 : State
 desk3 = receives (marks (marks (fresh 3))) (f11 ∷ f21 ∷ f12 ∷ f22 ∷ f41 ∷ [])
 
--- 1.2 with an empty stamp, and 1.1.
+-- Frames that no desk need have written: of d.n with these entries; 1.2 with an empty stamp, and 1.1.
+abbrev frame : ℕ → ℕ → List MarkId → List ℕ
+frame d n stamp = frameOfMark desks (record { id = id d n; extent = box; stamp = stamp })
+
 abbrev forged : ℕ → List ℕ
-forged n = frameOfMark desks (record { id = id 1 n; extent = box; stamp = [] })
+forged n = frame 1 n []
 
 -- The numbers of specs/Examples.antt.
 abbrev names : List MarkId → List ℕ
@@ -110,6 +112,31 @@ found =
     ∷ answered (receives (fresh 2) (forged 1 ∷ [])) (forged 2)
     ∷ []
 
+-- Of marks that follow 1.1; desk 4 with 1.1 and 2.1.
+abbrev f1 : ℕ → List ℕ
+f1 n = frame 1 n (id 1 (n - 1) ∷ [])
+
+abbrev after11 : ℕ → List ℕ
+after11 d = frame d 1 (id 1 1 ∷ [])
+
+abbrev desk4 : State
+desk4 = receives (fresh 4) (f11 ∷ after11 2 ∷ [])
+
+abbrev released : List (List ℕ) → List ℕ
+released waits = let st = receives (fresh 4) waits in answered st f11 ++ names (reverse (ids ((receives st (f11 ∷ [])) .executed)))
+
+abbrev foundPinned : List (List ℕ)
+foundPinned =
+    released (after11 2 ∷ after11 3 ∷ [])
+    ∷ released (after11 3 ∷ after11 2 ∷ [])
+    ∷ (value (firstApart desks (receives desk4 (f1 2 ∷ [])) (id 2 1) 1) ∷ [])
+    ∷ (value (firstApart desks (receives (fresh 4) (f11 ∷ f1 2 ∷ after11 2 ∷ f1 3 ∷ [])) (id 2 1) 1) ∷ [])
+    ∷ answered (fresh 2) f21
+    ∷ answered (fresh 2) (frame 1 1 (id 2 1 ∷ []))
+    ∷ answered desk4 (frame 3 1 (id 1 1 ∷ id 2 1 ∷ []))
+    ∷ (let st = receives (fresh 2) (f1 2 ∷ []) in answered st (f1 2) ++ answered st (forged 2))
+    ∷ []
+
 abbrev equal : List (List ℕ) → List (List ℕ) → Bool
 equal [] [] = true
 equal [] (y ∷ ys) = false
@@ -119,3 +146,7 @@ equal (x ∷ xs) (y ∷ ys) = sameBytes x y && equal xs ys
 pub examples : T (equal found starred)
 unfolding isDesk isNumber boxRule at2 at4 bytes2 bytes4 fieldsOf headOf frameOf lengthBad versionBad countBad partBad fieldsBad entryBad entriesBad outputShort readFields readEntries writeSize same isHead heads previous ready falseStamp concurrent new fieldsOfMark frameOfMark sizeOfMark markIn full newMark markAnswer mark refuse executing arrive unmade receiveMark receive relate apartOf firstApart
 examples = tt
+
+pub pins : T (equal foundPinned pinned)
+unfolding isDesk isNumber boxRule at2 at4 bytes2 bytes4 fieldsOf headOf frameOf lengthBad versionBad countBad partBad fieldsBad entryBad entriesBad outputShort readFields readEntries writeSize same isHead heads previous ready falseStamp concurrent new fieldsOfMark frameOfMark sizeOfMark markIn full newMark markAnswer mark refuse executing arrive unmade receiveMark receive relate apartOf firstApart
+pins = tt

@@ -1,6 +1,8 @@
 -- The modules of the laws and proofs.
+pub mod Examples
 pub mod Logic
 pub mod Lists
+pub mod Shared
 pub mod Past
 pub mod Numbers
 pub mod Cases
@@ -13,5 +15,4 @@ pub mod Fit
 pub mod Kept
 pub mod RowLaws
 pub mod Apart
-pub mod Examples
 pub mod Laws
