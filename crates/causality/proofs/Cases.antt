@@ -11,7 +11,7 @@ use Rattle.frame.specs.declared.MarkBox.{MarkBox}
 use Rattle.frame.specs.Answer.{Answer, gives, refused}
 use Rattle.frame.specs.Mark.{boxRule}
 use Rattle.frame.proofs.Tests.{passes}
-use Rattle.causality.specs.Answers.{Known, Numbered, Reception, Waiting}
+use Rattle.causality.specs.Answers.{Executed, Known, Numbered, Reception, Waiting}
 use Rattle.causality.specs.Calls.{Received, arrive, executing, frameOfMark, full, markAnswer, newMark, numbered, receiveMark, refuse, sameBytes, sizeOfMark, unmade}
 use Rattle.causality.specs.Marks.{any, find, waitingPlaces}
 use Rattle.causality.specs.State.{Mark, State, falseStamp, markId, ready}
@@ -35,8 +35,15 @@ pub record Arrives (st : State) (m : Mark) : Type 0 where
   pub absent : find markId (m .id) (st .executed ++ st .waiting) ≡ none
   pub room : full st ≡ false
 
+-- How many marks an answer of Receive says were executed.
+abbrev pub executedBy : Answer Reception → ℕ
+executedBy (gives Known) = 0
+executedBy (gives Waiting) = 0
+executedBy (gives (Executed k f)) = k
+executedBy (refused c) = 0
+
 pub data ReceiveCase (st : State) (m : Mark) : Received → Type 0 where
-  stays : (a : Answer Reception) → ReceiveCase st m (record { state = st; answer = a })
+  stays : (a : Answer Reception) → executedBy a ≡ 0 → ReceiveCase st m (record { state = st; answer = a })
   waits : Arrives st m → ready (st .executed) m ≡ false → eqb (length (st .waiting)) waitingPlaces ≡ false
       → ReceiveCase st m (record { state = record { own = st .own; executed = st .executed; waiting = m ∷ st .waiting }; answer = gives Waiting })
   executes : Arrives st m → ready (st .executed) m ≡ true → falseStamp (st .executed) m ≡ false → ReceiveCase st m (executing st m)
@@ -46,10 +53,10 @@ unfolding arrive refuse
 arrive-case st m here = go (full st) (ready (st .executed) m) (eqb (length (st .waiting)) waitingPlaces) (falseStamp (st .executed) m) refl refl refl refl
   where
     go : (a b c g : Bool) → full st ≡ a → ready (st .executed) m ≡ b → eqb (length (st .waiting)) waitingPlaces ≡ c → falseStamp (st .executed) m ≡ g → ReceiveCase st m (arrive st m)
-    go true b c g ea eb ec eg = rw (ea, arrive) (stays (refused 9))
-    go false false true g ea eb ec eg = rw (ea, arrive) (rw eb (rw ec (stays (refused 10))))
+    go true b c g ea eb ec eg = rw (ea, arrive) (stays (refused 9) refl)
+    go false false true g ea eb ec eg = rw (ea, arrive) (rw eb (rw ec (stays (refused 10) refl)))
     go false false false g ea eb ec eg = rw (ea, arrive) (rw eb (rw ec (waits (here ea) eb ec)))
-    go false true c true ea eb ec eg = rw (ea, arrive) (rw eb (rw eg (stays (refused 11))))
+    go false true c true ea eb ec eg = rw (ea, arrive) (rw eb (rw eg (stays (refused 11) refl)))
     go false true c false ea eb ec eg = rw (ea, arrive) (rw eb (rw eg (executes (here ea) eb eg)))
 
 pub receive-case : (N : ℕ) (st : State) (m : Mark) (s : List ℕ) → ReceiveCase st m (receiveMark N st m s)
@@ -58,11 +65,11 @@ receive-case N st m s = go (unmade st (m .id) || any (unmade st) (m .stamp)) ref
   where
     knows : (h : Mark) (b : Bool) → sameBytes (frameOfMark N h) s ≡ b
         → ReceiveCase st m (elim (sameBytes (frameOfMark N h) s) [ true ↦ record { state = st; answer = gives Known } | false ↦ refuse st 8 ])
-    knows h true e = rw e (stays (gives Known))
-    knows h false e = rw e (stays (refused 8))
+    knows h true e = rw e (stays (gives Known) refl)
+    knows h false e = rw e (stays (refused 8) refl)
 
     go : (b : Bool) → (unmade st (m .id) || any (unmade st) (m .stamp)) ≡ b → (o : Option Mark) → find markId (m .id) (st .executed ++ st .waiting) ≡ o
         → ReceiveCase st m (receiveMark N st m s)
-    go true e o q = rw (e, receiveMark) (stays (refused 7))
+    go true e o q = rw (e, receiveMark) (stays (refused 7) refl)
     go false e none q = rw (e, receiveMark) (rw q (arrive-case st m (λ r. record { made = e; absent = q; room = r })))
     go false e (some h) q = rw (e, receiveMark) (rw q (knows h (sameBytes (frameOfMark N h) s) refl))

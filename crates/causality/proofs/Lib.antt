@@ -7,6 +7,7 @@ pub mod Past
 pub mod Numbers
 pub mod Cases
 pub mod Refusals
+pub mod Growth
 pub mod Reach
 pub mod Room
 pub mod Rows

@@ -77,7 +77,7 @@ receive-still N d m s r = go (receive-case N d m s)
     neq x n e q = T-not (eqb x n) (rw e tt) (subst (λ (k : ℕ). T (eqb x k)) q (eqb-refl x))
 
     go : {x : Received} → ReceiveCase d m x → StillState (x .state)
-    go (stays a) = r
+    go (stays a z) = r
     go (waits a b c) =
         let n1 : ¬ (length (d .executed) + length (d .waiting) ≡ places) = neq (length (d .executed) + length (d .waiting)) places (a .room) in
         let n2 : ¬ (length (d .waiting) ≡ waitingPlaces) = neq (length (d .waiting)) waitingPlaces c in

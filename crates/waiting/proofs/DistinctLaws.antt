@@ -58,7 +58,7 @@ module _ (N : ℕ) where
   distinct-mark st m s d = go (receive-case N st m s)
     where
       go : {x : Received} → ReceiveCase st m x → Distinct (x .state .waiting)
-      go (stays a) = d
+      go (stays a z) = d
       go (waits a b c) = (absent (m .id) (st .executed) (st .waiting) (a .absent), d)
       go (executes a b c) = distinct-release (length (st .waiting)) (m ∷ st .executed) (st .waiting) 1 0 d
 

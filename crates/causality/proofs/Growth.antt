@@ -1,0 +1,47 @@
+-- "k counts all executed by the call": it is the growth in places, whatever bytes are received. Assumes nothing.
+use Prim.Native.Nat.{_+_, suc, zero, ℕ}
+use lib.ListN.{length}
+use mathlib.Core.Bool.{Bool, false, true}
+use mathlib.Core.List.{List, _∷_}
+use mathlib.Core.Option.{Option, none, some}
+use mathlib.Core.Path.{_≡_, refl}
+use native.Mathlib.Omega.{arith}
+use Rattle.frame.specs.declared.Fields.{Fields}
+use Rattle.frame.specs.Answer.{Answer, gives, refused}
+use Rattle.frame.specs.Frame.{edition, readFields}
+use Rattle.causality.specs.Calls.{Received, executing, ifRead, markIn, receive, receiveMark, refuse, release}
+use Rattle.causality.specs.Marks.{lowest, without}
+use Rattle.causality.specs.State.{Mark, State, falseStamp, markId, ready}
+use Rattle.causality.proofs.Cases.{ReceiveCase, executedBy, executes, receive-case, stays, waits}
+
+release-growth : (turns : ℕ) (l ws : List Mark) (k f : ℕ) → (release turns l ws k f) .k + length l ≡ k + length ((release turns l ws k f) .executed)
+release-growth zero l ws k f = refl
+release-growth (suc turns) l ws k f = go (lowest markId (ready l) ws) refl (release-growth turns)
+  where
+    go : (o : Option Mark) → lowest markId (ready l) ws ≡ o
+        → ((l ws : List Mark) (k f : ℕ) → (release turns l ws k f) .k + length l ≡ k + length ((release turns l ws k f) .executed))
+        → (release (suc turns) l ws k f) .k + length l ≡ k + length ((release (suc turns) l ws k f) .executed)
+    go none e ih = rw (e, release) refl
+    go (some w) e ih = by (falseStamp l w) refl
+      where
+        by : (b : Bool) → falseStamp l w ≡ b → (release (suc turns) l ws k f) .k + length l ≡ k + length ((release (suc turns) l ws k f) .executed)
+        by true x = rw (e, release) (rw x (ih l (without markId (w .id) ws) k (suc f)))
+        by false x = rw (e, release) (rw x (let g = ih (w ∷ l) (without markId (w .id) ws) (suc k) f in omega arith))
+
+case-growth : (st : State) (m : Mark) (r : Received) → ReceiveCase st m r → length (r .state .executed) ≡ executedBy (r .answer) + length (st .executed)
+unfolding executing
+case-growth st m r (stays a z) = omega arith
+case-growth st m r (waits a b c) = omega arith
+case-growth st m r (executes a b c) = let g = release-growth (length (st .waiting)) (m ∷ st .executed) (st .waiting) 1 0 in omega arith
+
+pub receive-growth : (N : ℕ) (st : State) (s : List ℕ)
+    → length ((receive N st s) .state .executed) ≡ executedBy ((receive N st s) .answer) + length (st .executed)
+unfolding receive refuse
+receive-growth N st s = go (readFields (edition N) s)
+  where
+    r : Received
+    r = receiveMark N st (markIn N s) s
+
+    go : (a : Answer Fields) → length ((ifRead a st r) .state .executed) ≡ executedBy ((ifRead a st r) .answer) + length (st .executed)
+    go (gives f) = case-growth st (markIn N s) r (receive-case N st (markIn N s) s)
+    go (refused c) = omega arith
