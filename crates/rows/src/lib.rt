@@ -13,13 +13,12 @@ ghost use Rattle.rows.specs.Steps.{Joined, Traced, NamedFrom, EntriesIn,
 use causality::Place;
 use frame::DESKS;
 use frame::MarkBox;
-use frame::NUMBERS;
 use frame::Number;
 
-// A row has a count for each desk; a desk has so many places.
+// A row has a count for each desk; a desk has so many places, for executed and waiting marks together.
 pub const WIDTH: usize = DESKS as usize;
 
-pub const PLACES: usize = NUMBERS as usize;
+pub const PLACES: usize = 512;
 
 // Values of a box.
 pub const BOX: usize = 4;

@@ -8,4 +8,5 @@ mod full;
 mod lengths;
 mod network;
 mod pair;
+mod pinned;
 mod sequences;
