@@ -1,7 +1,7 @@
 -- What the tests of Receive and the row functions found, in the definitions' terms. n: how many desks. Assumes nothing.
 use Prim.Native.Nat.{_*_, _+_, _-_, _<_, _≤_, max, suc, zero, ℕ}
 use lib.Dec.{T, leb, leb→le, ltb, ltb→lt, lt→ltb, nleb→lt, not-T}
-use lib.ListN.{getD, replicate, set}
+use lib.ListN.{getD, replicate, set, take}
 use lib.Seq.{getD-set-other}
 use mathlib.Core.Bool.{Bool, _&&_, _||_, false, not, true}
 use mathlib.Core.List.{List}
@@ -21,6 +21,7 @@ use Rattle.rows.specs.View.{Named, rowFn, someReached, view}
 use Rattle.rows.proofs.Slots.{zeros}
 use Rattle.rows.proofs.Arrays.{sound-below}
 use Rattle.rows.proofs.ByRows.{false-by-row, under-cong}
+use Rattle.rows.proofs.RowSteps.{named-desks, pass-rest}
 
 -- Two tests of which the first failed, or passed.
 pub first-failed : (x a b : Bool) → x ≡ a → not x ≡ true → false ≡ (a && b)
@@ -46,18 +47,12 @@ pub asked-set : (n : ℕ) (row : List ℕ) (d v : ℕ) → getD row d 0 ≡ 0 �
 asked-set n row d v h j q p = getD-set-other row d j v 0 (λ z. let w : getD row j 0 ≡ 0 = ap (λ (i : ℕ). getD row i 0) z ∙ h in omega arith)
 
 module _ (n : ℕ) where
-  -- Marks of named desks.
-  pub named-desks : (count : ℕ) (ds ns : List ℕ) (bs : ℕ → MarkBox) (ss : List ℕ) → Named n count ds → All (λ m. (1 ≤ m .id .desk) × (m .id .desk ≤ n)) (view n count ds ns bs ss)
-  unfolding view Named
-  named-desks zero ds ns bs ss f = tt
-  named-desks (suc k) ds ns bs ss f = (f k (omega arith), named-desks k ds ns bs ss (λ p l. f p (omega arith)))
-
   -- The false-stamp test of a mark with its stamp as a row, by a trace from an empty row that stopped at a place before which no mark stands of those asked.
   pub false-found : (count to : ℕ) (ds ns : List ℕ) (bs : ℕ → MarkBox) (ss : List ℕ) → Named n count ds → to ≤ count → (i : MarkId) (b : MarkBox) (row asked below : List ℕ) → 1 ≤ i .desk → i .desk ≤ n
       → ((j : ℕ) → j < n → 0 < getD row j 0 → getD asked j 0 ≡ getD row j 0)
       → (rowFn row (i .desk) ≡ 0 → 1 < i .number → rowFn asked (i .desk) ≡ i .number - 1)
       → ((j : ℕ) → j < n → 0 < getD asked j 0 → has (record { desk = suc j; number = getD asked j 0 }) (ids (view n to ds ns bs ss)) ≡ false)
-      → ((j : ℕ) → j < n → under (view n to ds ns bs ss) (rowFn row) (rowFn below) (suc j) ≡ under (view n count ds ns bs ss) (rowFn row) (rowFn (replicate n 0)) (suc j))
+      → ((j : ℕ) → j < n → getD below j 0 ≡ under (take (count - to) (view n count ds ns bs ss)) (rowFn row) (rowFn (replicate n 0)) (suc j))
       → (r : Bool) → r ≡ (someReached n row below || (ltb 1 (i .number) && ltb (max (rowFn row (i .desk)) (rowFn below (i .desk))) (i .number - 1)))
       → Sound (view n count ds ns bs ss) → T (ready (view n count ds ns bs ss) (record { id = i; extent = b; stamp = entriesOfRow n (rowFn row) }))
       → r ≡ falseStamp (view n count ds ns bs ss) (record { id = i; extent = b; stamp = entriesOfRow n (rowFn row) })
@@ -73,12 +68,13 @@ module _ (n : ℕ) where
       so = sound-below n count ds ns bs ss s to le
 
       a : All (λ m. (1 ≤ m .id .desk) × (m .id .desk ≤ n)) l
-      a = named-desks count ds ns bs ss f
+      a = named-desks n count ds ns bs ss f
 
       -- The rest of the pass gives what is under the stamp.
       rest : (d : ℕ) → 1 ≤ d → d ≤ n → under first (rowFn row) (rowFn below) d ≡ under l (rowFn row) (λ d. 0) d
       rest zero p q = let z : ⊥ = omega arith in absurd z
-      rest (suc j) p q = g j (omega arith) ∙ under-cong n l a (rowFn row) (rowFn row) (rowFn (replicate n 0)) (λ d. 0) (λ d p q. refl) (λ d p q. zeros n (d - 1)) (suc j) p q
+      rest (suc j) p q = pass-rest n ds ns bs ss (rowFn row) count to le f (replicate n 0) below g j (omega arith)
+          ∙ under-cong n l a (rowFn row) (rowFn row) (rowFn (replicate n 0)) (λ d. 0) (λ d p q. refl) (λ d p q. zeros n (d - 1)) (suc j) p q
 
       -- It adds nothing that tells of a mark at the place to or behind.
       tells : (d k : ℕ) → 1 ≤ d → d ≤ n → 1 ≤ k → has (record { desk = d; number = k }) (ids first) ≡ false → leb k (rowFn below d) ≡ leb k (under l (rowFn row) (λ d. 0) d)

@@ -19,9 +19,9 @@ use Rattle.causality.proofs.RowLaws.{row-of-entries, under, under-trace}
 use Rattle.causality.proofs.Rows.{rowOf, trace}
 use Rattle.rows.specs.View.{Named, markAt, nameAt, rowAt, rowFn, view}
 use Rattle.rows.proofs.Arrays.{sound-below}
-use Rattle.rows.proofs.ByRows.{row-at}
+use Rattle.rows.proofs.ByRows.{row-at, under-cong}
 use Rattle.rows.proofs.Places.{has-at, has-more, named-has, not-before, precedes-there}
-use Rattle.rows.proofs.RowSteps.{named-at, named-less, under-cong}
+use Rattle.rows.proofs.RowSteps.{named-at, named-desks, named-less}
 use Rattle.rows.proofs.Slots.{zeros}
 use Rattle.queries.specs.Steps.{PastTold}
 use Rattle.queries.proofs.Reaching.{no-row, reached}
@@ -55,7 +55,7 @@ module _ (n : ℕ) (ds ns : List ℕ) (bs : ℕ → MarkBox) (ss : List ℕ) whe
 
       traced : reached n ds ns bs ss p row (i .desk) ≡ trace l r (i .desk)
       traced =
-          under-cong n ds ns bs ss (λ d. 0) p f (rowFn row) r (λ d lo hi. er (d - 1) (omega arith) ∙ sym (row-of-entries n (rowAt n ss p) d lo hi)) (i .desk) lo hi
+          under-cong n l (named-desks n p ds ns bs ss f) (λ d. 0) (λ d. 0) (rowFn row) r (λ d lo hi. refl) (λ d lo hi. er (d - 1) (omega arith) ∙ sym (row-of-entries n (rowAt n ss p) d lo hi)) (i .desk) lo hi
           ∙ sym (no-row (under l (λ d. 0) r (i .desk))) ∙ under-trace l (λ d. 0) r (i .desk) ∙ (λ k. trace l (λ d. no-row (r d) k) (i .desk))
 
   pub past-row : (count p : ℕ) → p < count → Named n count ds → Sound (view n count ds ns bs ss) → (row past : List ℕ)

@@ -5,18 +5,18 @@ use lib.Dec.{T, leb, not-T}
 use lib.ListN.{getD}
 use mathlib.Core.Bool.{false, true}
 use mathlib.Core.List.{List}
-use mathlib.Core.Path.{_∙_, _≡_, subst}
+use mathlib.Core.Path.{_∙_, _≡_, ap, subst, sym}
 use native.Mathlib.Omega.{arith}
 use Rattle.frame.specs.declared.MarkBox.{MarkBox}
 use Rattle.frame.specs.Mark.{MarkId}
 use Rattle.causality.specs.Marks.{has}
-use Rattle.causality.specs.State.{ids}
+use Rattle.causality.specs.State.{Mark, ids}
 use Rattle.causality.proofs.Logic.{nT→eq}
 use Rattle.causality.proofs.Reach.{Sound}
 use Rattle.causality.proofs.RowLaws.{under, under-out, under-up}
 use Rattle.rows.specs.View.{Named, rowFn, view}
 use Rattle.rows.proofs.Places.{has-more}
-use Rattle.rows.proofs.RowSteps.{under-joined, under-passed}
+use Rattle.rows.proofs.RowSteps.{named-desks, named-less, under-joined, under-passed, view-last}
 
 pub no-row : (k : ℕ) → max 0 k ≡ k
 no-row k = omega arith
@@ -43,9 +43,12 @@ module _ (n : ℕ) (ds ns : List ℕ) (bs : ℕ → MarkBox) (ss : List ℕ) whe
       → ((j : ℕ) → j < n → getD row′ j 0 ≡ max (getD row j 0) (getD ss ((k - 1) * n + j) 0)) → (d : ℕ) → 1 ≤ d → d ≤ n → reached (k - 1) row′ d ≡ reached k row d
   reach-joined k row row′ z f q h zero lo hi = let y : ⊥ = omega arith in absurd y
   reach-joined k row row′ z f q h (suc j) lo hi =
-      under-joined n ds ns bs ss (λ d. 0) k row row′ (λ e. omega arith) f (le-leb (getD ns (k - 1) 0) (max 0 (rowFn row (getD ds (k - 1) 0))) (omega arith)) h j (omega arith)
+      under-joined n ds ns bs ss (λ d. 0) (k - 1) (view n (k - 1) ds ns bs ss) (named-desks n (k - 1) ds ns bs ss (named-less n k ds (k - 1) f (omega arith))) row row′
+      (le-leb (getD ns (k - 1) 0) (max 0 (rowFn row (getD ds (k - 1) 0))) (omega arith)) h j (omega arith)
+      ∙ ap (λ (l : List Mark). under l (λ d. 0) (rowFn row) (suc j)) (sym (view-last n ds ns bs ss k z))
 
   -- It is not counted.
   pub reach-passed : (k : ℕ) (row : List ℕ) → 0 < k → rowFn row (getD ds (k - 1) 0) < getD ns (k - 1) 0 → (d : ℕ) → 1 ≤ d → reached (k - 1) row d ≡ reached k row d
-  reach-passed k row z q zero lo = let y : ⊥ = omega arith in absurd y
-  reach-passed k row z q (suc j) lo = under-passed n ds ns bs ss (λ d. 0) k row (λ e. omega arith) (lt-leb (getD ns (k - 1) 0) (max 0 (rowFn row (getD ds (k - 1) 0))) (omega arith)) j
+  reach-passed k row z q d lo =
+      under-passed n ds ns bs ss (λ d. 0) (k - 1) (view n (k - 1) ds ns bs ss) row (lt-leb (getD ns (k - 1) 0) (max 0 (rowFn row (getD ds (k - 1) 0))) (omega arith)) d
+      ∙ ap (λ (l : List Mark). under l (λ d. 0) (rowFn row) d) (sym (view-last n ds ns bs ss k z))

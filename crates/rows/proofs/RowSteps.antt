@@ -1,22 +1,23 @@
--- Steps of loops over rows, and one step of `under` and of `tally` over a view, at rows of any width. Assumes nothing.
+-- Steps of loops over rows, and of `under` over the marks of arrays, at rows of any width. Assumes nothing.
 use Prim.Native.Nat.{_+_, _-_, _*_, _<_, _≤_, max, suc, zero, ℕ}
-use borrow.Author.Tests.{eqb-false, eqb-true, le-leb, le-ltb, leb-false, leb-true, lt-leb, lt-ltb}
-use lib.Dec.{eqb, leb, ltb}
-use lib.ListN.{getD, getD-replicate, length, length-replicate, length-set, replicate, set}
+use borrow.Author.Tests.{le-leb, le-ltb, leb-false, leb-true, lt-leb, lt-ltb}
+use lib.Dec.{leb, ltb}
+use lib.ListN.{getD, length, length-set, set, take}
 use lib.Seq.{getD-set-other, getD-set-same}
 use mathlib.Core.Bool.{Bool, _&&_, _||_, and-false, false, not, or-true, true}
-use mathlib.Core.List.{List, []}
+use mathlib.Core.List.{List, [], _∷_, _++_}
 use mathlib.Core.Logic.{_⊎_, inl, inr, ⊎-elim}
 use mathlib.Core.Path.{_∙_, _≡_, ap, refl, subst, sym}
 use native.Mathlib.Nat.{eq-or-lt-of-le}
 use native.Mathlib.Numerals.{add-one, sub-one}
 use native.Mathlib.Omega.{arith}
 use Rattle.frame.specs.declared.MarkBox.{MarkBox}
-use Rattle.causality.specs.Marks.{tally}
-use Rattle.causality.specs.State.{ids}
+use Rattle.causality.specs.Marks.{All}
+use Rattle.causality.specs.State.{Mark}
 use Rattle.causality.proofs.Rows.{rowOf}
 use Rattle.causality.proofs.RowLaws.{entriesOfRow, row-of-entries, under}
-use Rattle.rows.specs.View.{Named, allWithin, noBox, rowAt, rowFn, someReached, view}
+use Rattle.rows.specs.View.{Named, allWithin, markAt, rowAt, rowFn, someReached, view}
+use Rattle.rows.proofs.ByRows.{row-at, under-cong}
 
 -- The first j of a row's n counts are those of f, the later ones are as at the start.
 pub record Passed (n : ℕ) (f : ℕ → ℕ) (r₀ r : List ℕ) (j : ℕ) : Type 0 where
@@ -122,71 +123,102 @@ pub named-less : (n count : ℕ) (ds : List ℕ) (p : ℕ) → Named n count ds 
 unfolding Named
 named-less n count ds p f h q l = f q (omega arith)
 
--- `under` reads its row only at desks 1 to n, where the marks are of such desks.
-choice : (b b′ : Bool) (f g f′ g′ : ℕ → ℕ) (d : ℕ) → b ≡ b′ → f d ≡ f′ d → g d ≡ g′ d → (elim b as (λ z. ℕ → ℕ) [ true ↦ f | false ↦ g ]) d ≡ (elim b′ as (λ z. ℕ → ℕ) [ true ↦ f′ | false ↦ g′ ]) d
-choice b b′ f g f′ g′ d q y n = ap (λ (c : Bool). (elim c as (λ z. ℕ → ℕ) [ true ↦ f | false ↦ g ]) d) q ∙ go b′
+-- Marks of named desks.
+pub named-desks : (n count : ℕ) (ds ns : List ℕ) (bs : ℕ → MarkBox) (ss : List ℕ) → Named n count ds → All (λ m. (1 ≤ m .id .desk) × (m .id .desk ≤ n)) (view n count ds ns bs ss)
+unfolding view Named
+named-desks n zero ds ns bs ss f = tt
+named-desks n (suc k) ds ns bs ss f = (f k (omega arith), named-desks n k ds ns bs ss (λ p l. f p (omega arith)))
+
+all-take : (P : Mark → Type 0) (k : ℕ) (l : List Mark) → All P l → All P (take k l)
+all-take P zero l a = tt
+all-take P (suc k) [] a = tt
+all-take P (suc k) (m ∷ l) a = (a .0, all-take P k l (a .1))
+
+-- A pass over two lists is one over the first, then one over the second.
+under-append : (xs ys : List Mark) (s r : ℕ → ℕ) → under (xs ++ ys) s r ≡ under ys s (under xs s r)
+under-append [] ys s r = refl
+under-append (m ∷ xs) ys s r = go (leb (m .id .number) (max (s (m .id .desk)) (r (m .id .desk)))) (under-append xs ys s up) (under-append xs ys s r)
   where
-    go : (c : Bool) → (elim c as (λ z. ℕ → ℕ) [ true ↦ f | false ↦ g ]) d ≡ (elim c as (λ z. ℕ → ℕ) [ true ↦ f′ | false ↦ g′ ]) d
-    go true = y
-    go false = n
+    up : ℕ → ℕ
+    up d = max (r d) (rowOf (m .stamp) d)
 
-module _ (n : ℕ) (ds ns : List ℕ) (bs : ℕ → MarkBox) (ss : List ℕ) (s : ℕ → ℕ) where
-  pub under-cong : (k : ℕ) → Named n k ds → (r r′ : ℕ → ℕ) → ((d : ℕ) → 1 ≤ d → d ≤ n → r d ≡ r′ d)
-      → (d : ℕ) → 1 ≤ d → d ≤ n → under (view n k ds ns bs ss) s r d ≡ under (view n k ds ns bs ss) s r′ d
+    go : (b : Bool) → under (xs ++ ys) s up ≡ under ys s (under xs s up) → under (xs ++ ys) s r ≡ under ys s (under xs s r)
+        → (elim b as (λ z. ℕ → ℕ) [ true ↦ under (xs ++ ys) s up | false ↦ under (xs ++ ys) s r ]) ≡ under ys s (elim b as (λ z. ℕ → ℕ) [ true ↦ under xs s up | false ↦ under xs s r ])
+    go true y n = y
+    go false y n = n
+
+module _ (n : ℕ) (ds ns : List ℕ) (bs : ℕ → MarkBox) (ss : List ℕ) where
+  -- The mark at the last place stands in front.
+  pub view-last : (k : ℕ) → 0 < k → view n k ds ns bs ss ≡ markAt n ds ns bs ss (k - 1) ∷ view n (k - 1) ds ns bs ss
   unfolding view
-  under-cong zero f r r′ h d lo hi = h d lo hi
-  under-cong (suc k) f r r′ h d lo hi = choice (met r) (met r′) (pass (up r)) (pass r) (pass (up r′)) (pass r′) d
-      (ap (λ (x : ℕ). leb (getD ns k 0) (max (s e) x)) (h e (w .0) (w .1))) (under-cong k g (up r) (up r′) (λ i a b. ap (λ (x : ℕ). max x (m i)) (h i a b)) d lo hi) (under-cong k g r r′ h d lo hi)
+  view-last zero h = let z : ⊥ = omega arith in absurd z
+  view-last (suc k) h = rw (sub-one (suc k)) refl
+
+  -- So it does of the marks from a place before it on.
+  pub last-between : (k to : ℕ) → to < k → take (k - to) (view n k ds ns bs ss) ≡ markAt n ds ns bs ss (k - 1) ∷ take (k - 1 - to) (view n (k - 1) ds ns bs ss)
+  last-between k to h =
+      let e : k - to ≡ suc (k - 1 - to) = omega arith in
+      rw (e, view-last k (omega arith)) refl
+
+  -- The marks from a place on, then those before it, are all.
+  split-view : (k to : ℕ) → to ≤ k → take (k - to) (view n k ds ns bs ss) ++ view n to ds ns bs ss ≡ view n k ds ns bs ss
+  unfolding view
+  split-view zero to h = let e : to ≡ 0 = omega arith in rw e refl
+  split-view (suc k) to h = ⊎-elim here (λ q. later q (split-view k to (omega arith))) (eq-or-lt-of-le {n = to} {m = suc k} h)
     where
-      e : ℕ
-      e = getD ds k 0
+      here : to ≡ suc k → take (suc k - to) (view n (suc k) ds ns bs ss) ++ view n to ds ns bs ss ≡ view n (suc k) ds ns bs ss
+      here q = let e : suc k - to ≡ 0 = omega arith in rw e (ap (λ (x : ℕ). view n x ds ns bs ss) q)
 
-      m : ℕ → ℕ
-      m = rowOf (entriesOfRow n (rowAt n ss k))
+      later : to < suc k → take (k - to) (view n k ds ns bs ss) ++ view n to ds ns bs ss ≡ view n k ds ns bs ss
+          → take (suc k - to) (view n (suc k) ds ns bs ss) ++ view n to ds ns bs ss ≡ view n (suc k) ds ns bs ss
+      later q t = let e : suc k - to ≡ suc (k - to) = omega arith in rw e (ap (λ (l : List Mark). markAt n ds ns bs ss k ∷ l) t)
 
-      up : (ℕ → ℕ) → ℕ → ℕ
-      up x i = max (x i) (m i)
+  module _ (s : ℕ → ℕ) where
+    -- A mark in front of others is covered, and its row is joined.
+    pub under-joined : (p : ℕ) (l : List Mark) → All (λ m. (1 ≤ m .id .desk) × (m .id .desk ≤ n)) l → (row row′ : List ℕ)
+        → leb (getD ns p 0) (max (s (getD ds p 0)) (rowFn row (getD ds p 0))) ≡ true → ((j : ℕ) → j < n → getD row′ j 0 ≡ max (getD row j 0) (getD ss (p * n + j) 0))
+        → (j : ℕ) → j < n → under l s (rowFn row′) (suc j) ≡ under (markAt n ds ns bs ss p ∷ l) s (rowFn row) (suc j)
+    under-joined p l a row row′ q h j k = rw (q, under) (under-cong n l a s s (rowFn row′) (λ d. max (rowFn row d) (rowOf (entriesOfRow n (rowAt n ss p)) d)) (λ d lo hi. refl)
+        (λ d lo hi. h (d - 1) (omega arith) ∙ ap (λ (x : ℕ). max (rowFn row d) x) (sym (row-of-entries n (rowAt n ss p) d lo hi))) (suc j) (omega arith) (omega arith))
 
-      met : (ℕ → ℕ) → Bool
-      met x = leb (getD ns k 0) (max (s e) (x e))
+    -- It is not covered.
+    pub under-passed : (p : ℕ) (l : List Mark) (row : List ℕ) → leb (getD ns p 0) (max (s (getD ds p 0)) (rowFn row (getD ds p 0))) ≡ false
+        → (d : ℕ) → under l s (rowFn row) d ≡ under (markAt n ds ns bs ss p ∷ l) s (rowFn row) d
+    under-passed p l row q d = rw (q, under) refl
 
-      pass : (ℕ → ℕ) → ℕ → ℕ
-      pass = under (view n k ds ns bs ss) s
+    -- The same for the pass down to a place: that place is reached; the mark at the last place is covered; it is not.
+    pub pass-ended : (k to : ℕ) (row : List ℕ) → k ≤ to → (j : ℕ) → getD row j 0 ≡ under (take (k - to) (view n k ds ns bs ss)) s (rowFn row) (suc j)
+    pass-ended k to row l j = let e : k - to ≡ 0 = omega arith in rw (e, sub-one (suc j)) refl
 
-      w : (1 ≤ e) × (e ≤ n)
-      w = named-at n (suc k) ds k f (omega arith)
+    pub pass-joined : (k to : ℕ) → to < k → Named n k ds → (row row′ : List ℕ) → leb (getD ns (k - 1) 0) (max (s (getD ds (k - 1) 0)) (rowFn row (getD ds (k - 1) 0))) ≡ true
+        → ((j : ℕ) → j < n → getD row′ j 0 ≡ max (getD row j 0) (getD ss ((k - 1) * n + j) 0)) → (j : ℕ) → j < n
+        → under (take (k - 1 - to) (view n (k - 1) ds ns bs ss)) s (rowFn row′) (suc j) ≡ under (take (k - to) (view n k ds ns bs ss)) s (rowFn row) (suc j)
+    pass-joined k to h f row row′ q e j l =
+        under-joined (k - 1) (take (k - 1 - to) (view n (k - 1) ds ns bs ss)) (all-take (λ m. (1 ≤ m .id .desk) × (m .id .desk ≤ n)) (k - 1 - to) (view n (k - 1) ds ns bs ss)
+        (named-desks n (k - 1) ds ns bs ss (named-less n k ds (k - 1) f (omega arith)))) row row′ q e j l
+        ∙ ap (λ (x : List Mark). under x s (rowFn row) (suc j)) (sym (last-between k to h))
 
-      g : Named n k ds
-      g = named-less n (suc k) ds k f (omega arith)
+    pub pass-passed : (k to : ℕ) → to < k → (row : List ℕ) → leb (getD ns (k - 1) 0) (max (s (getD ds (k - 1) 0)) (rowFn row (getD ds (k - 1) 0))) ≡ false → (j : ℕ)
+        → under (take (k - 1 - to) (view n (k - 1) ds ns bs ss)) s (rowFn row) (suc j) ≡ under (take (k - to) (view n k ds ns bs ss)) s (rowFn row) (suc j)
+    pass-passed k to h row q j =
+        under-passed (k - 1) (take (k - 1 - to) (view n (k - 1) ds ns bs ss)) row q (suc j) ∙ ap (λ (x : List Mark). under x s (rowFn row) (suc j)) (sym (last-between k to h))
 
-  -- The mark at the last place is covered, and its row is joined.
-  pub under-joined : (k : ℕ) (row row′ : List ℕ) → (k ≡ 0 → ⊥) → Named n k ds → leb (getD ns (k - 1) 0) (max (s (getD ds (k - 1) 0)) (rowFn row (getD ds (k - 1) 0))) ≡ true
-      → ((j : ℕ) → j < n → getD row′ j 0 ≡ max (getD row j 0) (getD ss ((k - 1) * n + j) 0))
-      → (j : ℕ) → j < n → under (view n (k - 1) ds ns bs ss) s (rowFn row′) (suc j) ≡ under (view n k ds ns bs ss) s (rowFn row) (suc j)
-  unfolding view
-  under-joined zero row row′ z f q h j l = absurd (z refl)
-  under-joined (suc k) row row′ z f q h j l =
-      let e : suc k - 1 ≡ k = sub-one (suc k) in
-      let q′ : leb (getD ns k 0) (max (s (getD ds k 0)) (rowFn row (getD ds k 0))) ≡ true = rw e at q in
-      let h′ : (j : ℕ) → j < n → getD row′ j 0 ≡ max (getD row j 0) (getD ss (k * n + j) 0) = rw e at h in
-      rw (e, q′, under) (under-cong k (named-less n (suc k) ds k f (omega arith)) (rowFn row′) (λ d. max (rowFn row d) (rowOf (entriesOfRow n (rowAt n ss k)) d))
-      (λ d lo hi. h′ (d - 1) (omega arith) ∙ ap (λ (x : ℕ). max (rowFn row d) x) (sym (row-of-entries n (rowAt n ss k) d lo hi))) (suc j) (omega arith) (omega arith))
+    -- A pass down to a place, and the pass over the marks before it gives what the whole pass gives.
+    pub pass-rest : (k to : ℕ) → to ≤ k → Named n k ds → (row row′ : List ℕ)
+        → ((j : ℕ) → j < n → getD row′ j 0 ≡ under (take (k - to) (view n k ds ns bs ss)) s (rowFn row) (suc j))
+        → (j : ℕ) → j < n → under (view n to ds ns bs ss) s (rowFn row′) (suc j) ≡ under (view n k ds ns bs ss) s (rowFn row) (suc j)
+    pass-rest k to h f row row′ e j l =
+        under-cong n older (named-desks n to ds ns bs ss (named-less n k ds to f h)) s s (rowFn row′) (under newer s (rowFn row)) (λ d lo hi. refl)
+        (row-at n row′ (under newer s (rowFn row)) e) (suc j) (omega arith) (omega arith)
+        ∙ ap (λ (g : ℕ → ℕ). g (suc j)) (sym (under-append newer older s (rowFn row))) ∙ ap (λ (x : List Mark). under x s (rowFn row) (suc j)) (split-view k to h)
+      where
+        newer : List Mark
+        newer = take (k - to) (view n k ds ns bs ss)
 
-  -- It is not covered.
-  pub under-passed : (k : ℕ) (row : List ℕ) → (k ≡ 0 → ⊥) → leb (getD ns (k - 1) 0) (max (s (getD ds (k - 1) 0)) (rowFn row (getD ds (k - 1) 0))) ≡ false
-      → (j : ℕ) → under (view n (k - 1) ds ns bs ss) s (rowFn row) (suc j) ≡ under (view n k ds ns bs ss) s (rowFn row) (suc j)
-  unfolding view
-  under-passed zero row z q j = absurd (z refl)
-  under-passed (suc k) row z q j =
-      let e : suc k - 1 ≡ k = sub-one (suc k) in
-      let q′ : leb (getD ns k 0) (max (s (getD ds k 0)) (rowFn row (getD ds k 0))) ≡ false = rw e at q in
-      rw (e, q′, under)
+        older : List Mark
+        older = view n to ds ns bs ss
 
-  -- The place to stop at is reached.
-  pub under-reached : (k to : ℕ) (row : List ℕ) → to ≤ k → k ≤ to → (j : ℕ) → under (view n to ds ns bs ss) s (rowFn row) (suc j) ≡ under (view n k ds ns bs ss) s (rowFn row) (suc j)
-  under-reached k to row h l j = let e : to ≡ k = omega arith in ap (λ (x : ℕ). under (view n x ds ns bs ss) s (rowFn row) (suc j)) e
-
-  -- No mark is left.
-  pub under-none : (row : List ℕ) (j : ℕ) → getD row j 0 ≡ under (view n 0 ds ns bs ss) s (rowFn row) (suc j)
-  unfolding view
-  under-none row j = let e : suc j - 1 ≡ j = sub-one (suc j) in rw e refl
+    -- No mark is left.
+    pub under-none : (row : List ℕ) (j : ℕ) → getD row j 0 ≡ under (view n 0 ds ns bs ss) s (rowFn row) (suc j)
+    unfolding view
+    under-none row j = let e : suc j - 1 ≡ j = sub-one (suc j) in rw e refl

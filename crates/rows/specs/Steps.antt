@@ -19,11 +19,11 @@ pub record Joined (ss : List ℕ) (p : ℕ) (before after : List ℕ) : Type 0 w
   pub long : length after ≡ width
   pub counts : (j : ℕ) → j < width → getD after j 0 ≡ max (getD before j 0) (getD ss (p * width + j) 0)
 
--- The pass of the trace from a place down to another: from there it gives the same.
+-- The pass of the trace from a place down to another, over the marks between them and no others, newest first. Their boxes do not matter.
 pub record Traced (ds ns ss entries : List ℕ) (at : ℕ) (before : List ℕ) (to : ℕ) (after : List ℕ) : Type 0 where
   pub long : length after ≡ width
-  pub same-pass : (bs : ℕ → MarkBox) (j : ℕ) → j < width
-      → under (view width to ds ns bs ss) (rowFn entries) (rowFn after) (suc j) ≡ under (view width at ds ns bs ss) (rowFn entries) (rowFn before) (suc j)
+  pub counts : (bs : ℕ → MarkBox) (j : ℕ) → j < width
+      → getD after j 0 ≡ under (take (at - to) (view width at ds ns bs ss)) (rowFn entries) (rowFn before) (suc j)
 
 -- No mark that a row names is among the first r of so many, whatever their stamps.
 abbrev pub NamedFrom : List ℕ → List ℕ → List ℕ → ℕ → ℕ → Type 0

@@ -62,7 +62,7 @@ pub fn counted<'a>(entries: &'a [u16; WIDTH], below: &'a [u16; WIDTH], d: usize,
 }
 
 // Follows stamp entries down from a place to another: of the marks between, those that precede an entry are added to `below`, which is lent.
-// The rest of the pass then gives what the whole pass gives. The place of the examined mark falls at each call.
+// The place of the examined mark falls at each call, and none before the second place is examined.
 pub fn trace<'a>(
     desks: &'a [u8; PLACES],
     numbers: &'a [u16; PLACES],
@@ -72,7 +72,7 @@ pub fn trace<'a>(
     at: Place,
     to: Place,
 )
-    requires { ⌜ (at .0 ≤ places) × Named width (at .0) (now desks) × (to .0 ≤ at .0) × (length (now below) ≡ width) ⌝ }
+    requires { ⌜ (at .0 ≤ places) × Named width (at .0) (now desks) × (length (now below) ≡ width) ⌝ }
     ensures { λ _. ⌜ Traced (now (desks .entry)) (now (numbers .entry)) (now (stamps .entry)) (now (entries .entry))
         (at .0) (now (below .entry)) (to .0) (now (below .exit)) ⌝ }
 {

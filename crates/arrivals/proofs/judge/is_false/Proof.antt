@@ -17,7 +17,7 @@ returns c = λ bs s t.
     let e = o .oldest .ensures in
     let w = c .before .trace in
     false-found width (a .count) (o .oldest .result) (a .desks .now) (a .numbers .now) bs (a .stamps .now) (b .pre .1) (e .0) (heldId h) (h .extent) (h .row) (k .asked .result) (w .last .1 .1 .1 .1 .0)
-    (b .pre .2) (b .pre .3) (k .asked .ensures .named) (k .asked .ensures .previous) (e .1 bs (a .stamps .now) s) (w .ensures .same-pass bs)
+    (b .pre .2) (b .pre .3) (k .asked .ensures .named) (k .asked .ensures .previous) (e .1 bs (a .stamps .now) s) (w .ensures .counts bs)
     (c .false-stamp .result) (c .false-stamp .ensures) s t
 
 pub is-false-spec : {M : Type 1} → statement M
