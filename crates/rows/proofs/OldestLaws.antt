@@ -1,7 +1,7 @@
--- The search for the oldest of the marks that a row names, turn by turn: names counted, met, struck. n: how many desks. Assumes nothing.
+-- The search for the oldest of the marks that a row names, turn by turn: names counted, met, struck. What its place tells. Assumes nothing.
 use Prim.Native.Nat.{_+_, _-_, _<_, _≤_, suc, zero, ℕ}
-use borrow.Author.Tests.{eqb-false, le-ltb, lt-ltb, ltb-false}
-use lib.Dec.{T, eqb, eqb→eq, ltb, not-T}
+use borrow.Author.Tests.{eqb-false, le-ltb, lt-ltb, ltb-false, ltb-true}
+use lib.Dec.{T, eqb, eqb→eq, leb, leb→le, ltb, nleb→lt, not-T}
 use lib.ListN.{getD, length, length-set, set}
 use lib.Seq.{getD-set-other, getD-set-same}
 use mathlib.Core.Bool.{Bool, false, true}
@@ -17,7 +17,8 @@ use Rattle.causality.specs.Marks.{has}
 use Rattle.causality.specs.State.{ids}
 use Rattle.causality.proofs.Logic.{nT→eq, split}
 use Rattle.causality.proofs.Reach.{Sound}
-use Rattle.rows.specs.View.{namesIn, view}
+use Rattle.rows.specs.View.{nameAt, namesIn, view, width}
+use Rattle.rows.specs.Steps.{AllFrom, Oldest, StandsFrom}
 use Rattle.rows.proofs.Places.{not-before}
 
 -- NAMES
@@ -59,6 +60,19 @@ names-zero (suc k) r e j h = go (ltb 0 (getD r k 0)) refl e (λ w. names-zero k 
     go true q w ih = let z : ⊥ = omega arith in absurd z
     go false q w ih = ⊎-elim (λ y. let l = ltb-false 0 (getD r k 0) q in ap (λ (i : ℕ). getD r i 0) y ∙ (omega arith)) (λ y. ih w y) (eq-or-lt-of-le {n = j} {m = k} (omega arith))
 
+-- A name is left.
+names-some : (k : ℕ) (r : List ℕ) → 0 < namesIn k r → (j : ℕ) × (j < k) × (0 < getD r j 0)
+unfolding namesIn
+names-some zero r h = let z : ⊥ = omega arith in absurd z
+names-some (suc k) r h = go (ltb 0 (getD r k 0)) refl h (names-some k r)
+  where
+    x : ℕ
+    x = namesIn k r
+
+    go : (b : Bool) → ltb 0 (getD r k 0) ≡ b → 0 < (elim b as (λ z. ℕ) [ true ↦ suc x | false ↦ x ]) → (0 < x → (j : ℕ) × (j < k) × (0 < getD r j 0)) → (j : ℕ) × (j < suc k) × (0 < getD r j 0)
+    go true q w ih = (k, omega arith, ltb-true 0 (getD r k 0) q)
+    go false q w ih = let y = ih w in let l = y .1 in (y .0, omega arith, y .2)
+
 -- A name that is struck is one name less.
 struck-above : (k j : ℕ) (r : List ℕ) → k ≤ j → namesIn k (set r j 0) ≡ namesIn k r
 unfolding namesIn
@@ -91,78 +105,144 @@ struck-one (suc k) j r h l p = ⊎-elim here (λ q. later q (struck-one k j r q 
 
 -- PLACES
 
--- Mark d.m stands at a place from p on.
-pub record Met (count : ℕ) (ds ns : List ℕ) (d m p : ℕ) : Type 0 where
-  pub q : ℕ
-  pub low : p ≤ q
-  pub high : q < count
-  pub desk : getD ds q 0 ≡ d
-  pub number : getD ns q 0 ≡ m
+-- What stands from p on stands from the place before on.
+down : (ds ns : List ℕ) (count p : ℕ) (i : MarkId) → StandsFrom ds ns count p i → StandsFrom ds ns count (p - 1) i
+down ds ns count p i w = let l = w .low in record { place = w .place; low = omega arith; high = w .high; name = w .name }
 
--- The marks that a row names, but for those that are left in another row, stand at places from p on.
-pub record Left (n count : ℕ) (ds ns row₀ row : List ℕ) (left p : ℕ) : Type 0 where
+-- What stands from the place before p on, and not there, stands from p on.
+up : (ds ns : List ℕ) (count p : ℕ) (i : MarkId) → (nameAt ds ns (p - 1) ≡ i → ⊥) → StandsFrom ds ns count (p - 1) i → StandsFrom ds ns count p i
+up ds ns count p i f w = let l = w .low in ⊎-elim (λ q. absurd (f (ap (nameAt ds ns) q ∙ w .name)))
+    (λ q. record { place = w .place; low = omega arith; high = w .high; name = w .name }) (eq-or-lt-of-le {n = p - 1} {m = w .place} l)
+
+-- The mark that a row names at index j.
+abbrev name : List ℕ → ℕ → MarkId
+name row j = record { desk = suc j; number = getD row j 0 }
+
+-- It is left in another row, and stands at no place from p on; or it is struck there, and stands at one.
+abbrev Each : ℕ → List ℕ → List ℕ → List ℕ → List ℕ → ℕ → ℕ → Type 0
+Each count ds ns row₀ row p j = ((getD row j 0 ≡ getD row₀ j 0) × (0 < getD row₀ j 0 → StandsFrom ds ns count p (name row₀ j) → ⊥)) ⊎ ((getD row j 0 ≡ 0) × StandsFrom ds ns count p (name row₀ j))
+
+-- So it is with all names, and from no place behind p on all stand.
+pub record Left (count : ℕ) (ds ns row₀ row : List ℕ) (left p : ℕ) : Type 0 where
   pub turns : p ≤ count
-  pub long : length row ≡ n
-  pub names : left ≡ namesIn n row
-  pub met : (j : ℕ) → j < n → (getD row j 0 ≡ getD row₀ j 0) ⊎ Met count ds ns (suc j) (getD row₀ j 0) p
+  pub long : length row ≡ width
+  pub names : left ≡ namesIn width row
+  pub each : (j : ℕ) → j < width → Each count ds ns row₀ row p j
+  pub last : (q : ℕ) → q ≤ count → AllFrom ds ns row₀ count q → q ≤ p
 
--- Before place 0 stands none.
-pub none-before : (n : ℕ) (ds ns : List ℕ) (p : ℕ) → p ≡ 0 → (bs : ℕ → MarkBox) (ss : List ℕ) (i : MarkId) → has i (ids (view n p ds ns bs ss)) ≡ false
-unfolding view
-none-before n ds ns p z bs ss i = ap (λ (x : ℕ). has i (ids (view n x ds ns bs ss))) z
-
-module _ (n count : ℕ) (ds ns row₀ : List ℕ) where
-  pub left-all : (left : ℕ) → length row₀ ≡ n → left ≡ namesIn n row₀ → Left n count ds ns row₀ row₀ left count
-  left-all left l e = record { turns = omega arith; long = l; names = e; met = λ j h. inl refl }
-
-  down : (j p : ℕ) → Met count ds ns (suc j) (getD row₀ j 0) p → Met count ds ns (suc j) (getD row₀ j 0) (p - 1)
-  down j p m = let l = m .low in record { q = m .q; low = omega arith; high = m .high; desk = m .desk; number = m .number }
-
-  -- A turn that meets none.
-  pub left-kept : (row : List ℕ) (left p : ℕ) → Left n count ds ns row₀ row left p → Left n count ds ns row₀ row left (p - 1)
-  left-kept row left p w = let t = w .turns in record { turns = omega arith; long = w .long; names = w .names; met = λ j h. ⊎-elim inl (λ m. inr (down j p m)) (w .met j h) }
-
-  -- A turn that meets a name and strikes it.
-  pub left-struck : (row : List ℕ) (left p : ℕ) → Left n count ds ns row₀ row left p → 0 < p → 1 ≤ getD ds (p - 1) 0 → getD ds (p - 1) 0 ≤ n
-      → getD row (getD ds (p - 1) 0 - 1) 0 ≡ getD ns (p - 1) 0 → 0 < getD row (getD ds (p - 1) 0 - 1) 0
-      → Left n count ds ns row₀ (set row (getD ds (p - 1) 0 - 1) 0) (left - 1) (p - 1)
-  left-struck row left p w o lo hi e pos = record {
+module _ (count : ℕ) (ds ns row₀ : List ℕ) where
+  pub left-all : (left : ℕ) → length row₀ ≡ width → left ≡ namesIn width row₀ → Left count ds ns row₀ row₀ left count
+  left-all left l e = record {
     turns = omega arith;
-    long = length-set row d 0 ∙ w .long;
-    names = let x = struck-one n d row (omega arith) (omega arith) pos in let y = w .names in omega arith;
-    met = λ j h. ⊎-elim (here j h) (λ q. ⊎-elim (λ y. inl (getD-set-other row d j 0 0 q ∙ y)) (λ m. inr (down j p m)) (w .met j h)) (either j);
+    long = l;
+    names = e;
+    each = λ j h. inl (refl, λ o w. let a = w .low in let b = w .high in omega arith);
+    last = λ q h f. h;
   }
-    where
-      d : ℕ
-      d = getD ds (p - 1) 0 - 1
 
-      t : p ≤ count
-      t = w .turns
+  module _ (row : List ℕ) (left p : ℕ) (w : Left count ds ns row₀ row left p) (some : 0 < left) where
+    -- A name is left, so all stand only from a place before p on.
+    before : (q : ℕ) → q ≤ count → AllFrom ds ns row₀ count q → q ≤ p - 1
+    before q h f = ⊎-elim unmet (λ z. let a = z .0 in let b = x .2 in let y : ⊥ = omega arith in absurd y) (w .each (x .0) (x .1))
+      where
+        x : (j : ℕ) × (j < width) × (0 < getD row j 0)
+        x = names-some width row (let e = w .names in omega arith)
 
-      l : length row ≡ n
-      l = w .long
+        unmet : (getD row (x .0) 0 ≡ getD row₀ (x .0) 0) × (0 < getD row₀ (x .0) 0 → StandsFrom ds ns count p (name row₀ (x .0)) → ⊥) → q ≤ p - 1
+        unmet z =
+            let a = z .0 in
+            let b = x .2 in
+            let pos : 0 < getD row₀ (x .0) 0 = omega arith in
+            let y = f (x .0) (x .1) pos in
+            let l = y .low in
+            elim (split (leb p (y .place))) [
+              | inl t ↦ absurd (z .1 pos (record { place = y .place; low = leb→le p (y .place) t; high = y .high; name = y .name }))
+              | inr t ↦ let k = nleb→lt p (y .place) t in omega arith
+            ]
 
-      either : (j : ℕ) → (j ≡ d) ⊎ (j ≡ d → ⊥)
-      either j = elim (split (eqb j d)) [ inl u ↦ inl (eqb→eq j d u) | inr u ↦ inr (eqb-false j d (nT→eq (eqb j d) u)) ]
+    abbrev d : ℕ
+    d = getD ds (p - 1) 0 - 1
 
-      here : (j : ℕ) → j < n → j ≡ d → (getD (set row d 0) j 0 ≡ getD row₀ j 0) ⊎ Met count ds ns (suc j) (getD row₀ j 0) (p - 1)
-      here j h q = ⊎-elim
-          (λ y. inr (record { q = p - 1; low = omega arith; high = omega arith; desk = omega arith; number = sym e ∙ ap (λ (i : ℕ). getD row i 0) (sym q) ∙ y }))
-          (λ m. inr (down j p m)) (w .met j h)
+    -- A turn that meets none.
+    pub left-kept : (0 < getD row d 0 → getD row d 0 ≡ getD ns (p - 1) 0 → ⊥) → Left count ds ns row₀ row left (p - 1)
+    left-kept none = record {
+      turns = let t = w .turns in omega arith;
+      long = w .long;
+      names = w .names;
+      each = λ j h. ⊎-elim (λ z. inl (z .0, λ o s. z .1 o (up ds ns count p (name row₀ j) (missed j (z .0) o) s))) (λ z. inr (z .0, down ds ns count p (name row₀ j) (z .1))) (w .each j h);
+      last = before;
+    }
+      where
+        missed : (j : ℕ) → getD row j 0 ≡ getD row₀ j 0 → 0 < getD row₀ j 0 → nameAt ds ns (p - 1) ≡ name row₀ j → ⊥
+        missed j e o q =
+            let a : getD ds (p - 1) 0 ≡ suc j = ap (λ (i : MarkId). i .desk) q in
+            let b : getD ns (p - 1) 0 ≡ getD row₀ j 0 = ap (λ (i : MarkId). i .number) q in
+            let k : j ≡ d = omega arith in
+            let v : getD row d 0 ≡ getD row₀ j 0 = ap (λ (i : ℕ). getD row i 0) (sym k) ∙ e in
+            none (omega arith) (v ∙ sym b)
 
-  -- All are met.
-  pub left-none : (row : List ℕ) (left p : ℕ) → Left n count ds ns row₀ row left p → left ≡ 0 → (bs : ℕ → MarkBox) (ss : List ℕ) → Sound (view n count ds ns bs ss)
-      → (j : ℕ) → j < n → 0 < getD row₀ j 0 → has (record { desk = suc j; number = getD row₀ j 0 }) (ids (view n p ds ns bs ss)) ≡ false
-  left-none row left p w z bs ss s j h pos = nT→eq b (not-T b (⊎-elim (λ e. let y = names-zero n row (sym (w .names) ∙ z) j h in let x : ⊥ = omega arith in absurd x) there (w .met j h)))
-    where
-      i : MarkId
-      i = record { desk = suc j; number = getD row₀ j 0 }
+    -- A turn that meets a name and strikes it.
+    pub left-struck : 0 < p → 1 ≤ getD ds (p - 1) 0 → getD ds (p - 1) 0 ≤ width → getD row d 0 ≡ getD ns (p - 1) 0 → 0 < getD row d 0 → Left count ds ns row₀ (set row d 0) (left - 1) (p - 1)
+    left-struck o lo hi e pos = record {
+      turns = omega arith;
+      long = length-set row d 0 ∙ l;
+      names = let x = struck-one width d row (omega arith) (omega arith) pos in let y = w .names in omega arith;
+      each = λ j h. ⊎-elim (here j h) (other j h) (either j);
+      last = before;
+    }
+      where
+        t : p ≤ count
+        t = w .turns
 
-      b : Bool
-      b = has i (ids (view n p ds ns bs ss))
+        l : length row ≡ width
+        l = w .long
 
-      there : Met count ds ns (suc j) (getD row₀ j 0) p → T b → ⊥
-      there m t =
-          let d = m .desk in
-          let k = m .number in
-          not-before n ds ns bs ss count (m .q) p s (m .high) (m .low) (subst (λ (x : MarkId). T (has x (ids (view n p ds ns bs ss)))) (sym (λ y. record { desk = d y; number = k y })) t)
+        either : (j : ℕ) → (j ≡ d) ⊎ (j ≡ d → ⊥)
+        either j = elim (split (eqb j d)) [ inl u ↦ inl (eqb→eq j d u) | inr u ↦ inr (eqb-false j d (nT→eq (eqb j d) u)) ]
+
+        here : (j : ℕ) → j < width → j ≡ d → Each count ds ns row₀ (set row d 0) (p - 1) j
+        here j h q = inr (
+          ap (λ (i : ℕ). getD (set row d 0) i 0) q ∙ getD-set-same row d 0 0 (omega arith),
+          ⊎-elim (λ z. record { place = p - 1; low = omega arith; high = omega arith; name = same (z .0) }) (λ z. down ds ns count p (name row₀ j) (z .1)) (w .each j h),
+        )
+          where
+            same : getD row j 0 ≡ getD row₀ j 0 → nameAt ds ns (p - 1) ≡ name row₀ j
+            same y =
+                let a : getD ds (p - 1) 0 ≡ suc j = omega arith in
+                let b : getD ns (p - 1) 0 ≡ getD row₀ j 0 = sym e ∙ ap (λ (i : ℕ). getD row i 0) (sym q) ∙ y in
+                λ i. record { desk = a i; number = b i }
+
+        other : (j : ℕ) → j < width → (j ≡ d → ⊥) → Each count ds ns row₀ (set row d 0) (p - 1) j
+        other j h q = ⊎-elim
+            (λ z. inl (getD-set-other row d j 0 0 q ∙ z .0, λ o s. z .1 o (up ds ns count p (name row₀ j) (λ y. q (let a : getD ds (p - 1) 0 ≡ suc j = ap (λ (i : MarkId). i .desk) y in omega arith)) s)))
+            (λ z. inr (getD-set-other row d j 0 0 q ∙ z .0, down ds ns count p (name row₀ j) (z .1))) (w .each j h)
+
+  -- All are met, or no place is left.
+  pub left-none : (row : List ℕ) (left p : ℕ) → Left count ds ns row₀ row left p → left ≡ 0 → Oldest ds ns row₀ count p
+  left-none row left p w z = record {
+    within = w .turns;
+    from = λ o j h pos. ⊎-elim (λ y. let a = y .0 in let b = names-zero width row (sym (w .names) ∙ z) j h in let x : ⊥ = omega arith in absurd x) (λ y. y .1) (w .each j h);
+    last = w .last;
+  }
+
+  pub left-end : (row : List ℕ) (left p : ℕ) → Left count ds ns row₀ row left p → p ≡ 0 → Oldest ds ns row₀ count p
+  left-end row left p w z = record { within = w .turns; from = λ o. let x : ⊥ = omega arith in absurd x; last = w .last }
+
+-- There is one such place only.
+not-later : (ds ns row : List ℕ) (count r r′ : ℕ) → Oldest ds ns row count r → Oldest ds ns row count r′ → r ≤ r′
+not-later ds ns row count zero r′ o o′ = omega arith
+not-later ds ns row count (suc r) r′ o o′ = o′ .last (suc r) (o .within) (o .from (omega arith))
+
+pub one-oldest : (ds ns row : List ℕ) (count r r′ : ℕ) → Oldest ds ns row count r → Oldest ds ns row count r′ → r ≡ r′
+one-oldest ds ns row count r r′ o o′ = omega (arith, not-later ds ns row count r r′ o o′, not-later ds ns row count r′ r o′ o)
+
+-- No mark that a row names is among those before the place of the oldest, whatever their stamps.
+pub oldest-before : (ds ns row : List ℕ) (count r : ℕ) → Oldest ds ns row count r → (bs : ℕ → MarkBox) (ss : List ℕ) → Sound (view width count ds ns bs ss)
+    → (j : ℕ) → j < width → 0 < getD row j 0 → has (record { desk = suc j; number = getD row j 0 }) (ids (view width r ds ns bs ss)) ≡ false
+unfolding view
+oldest-before ds ns row count zero o bs ss s j h pos = refl
+oldest-before ds ns row count (suc r) o bs ss s j h pos =
+    let w = o .from (omega arith) j h pos in
+    let l = ids (view width (suc r) ds ns bs ss) in
+    let i : MarkId = record { desk = suc j; number = getD row j 0 } in
+    nT→eq (has i l) (not-T (has i l) (λ t. not-before width ds ns bs ss count (w .place) (suc r) s (w .high) (w .low) (subst (λ (x : MarkId). T (has x l)) (sym (w .name)) t)))

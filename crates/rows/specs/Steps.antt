@@ -1,18 +1,16 @@
 -- What the inner functions do to lent rows and arrays. Inner: need not be believed.
-use mathlib.Core.Bool.{Bool, false, _&&_, _||_}
+use mathlib.Core.Bool.{Bool, _&&_, _||_}
 use mathlib.Core.Path.{_≡_}
 use mathlib.Core.List.{List}
 use Prim.Native.Nat.{ℕ, suc, max, _+_, _-_, _*_, _≤_, _<_}
 use lib.Dec.{ltb}
 use lib.ListN.{length, getD, set, take}
 use Rattle.frame.specs.Frame.{entryBytes}
+use Rattle.frame.specs.Mark.{MarkId}
 use Rattle.frame.specs.declared.MarkBox.{MarkBox}
-use Rattle.causality.specs.Marks.{has}
-use Rattle.causality.specs.State.{ids}
-use Rattle.causality.proofs.Reach.{Sound}
 use Rattle.causality.proofs.RowLaws.{entriesOfRow, under}
 use Rattle.rows.specs.declared.Held.{Held}
-use Rattle.rows.specs.View.{width, rowFn, view, boxAt, someReached, SameOutside}
+use Rattle.rows.specs.View.{width, rowFn, nameAt, view, boxAt, someReached, SameOutside}
 
 -- A row joined with row p of the stamps: at each desk the greater count.
 pub record Joined (ss : List ℕ) (p : ℕ) (before after : List ℕ) : Type 0 where
@@ -25,10 +23,22 @@ pub record Traced (ds ns ss entries : List ℕ) (at : ℕ) (before : List ℕ) (
   pub counts : (bs : ℕ → MarkBox) (j : ℕ) → j < width
       → getD after j 0 ≡ under (take (at - to) (view width at ds ns bs ss)) (rowFn entries) (rowFn before) (suc j)
 
--- No mark that a row names is among the first r of so many, whatever their stamps.
-abbrev pub NamedFrom : List ℕ → List ℕ → List ℕ → ℕ → ℕ → Type 0
-NamedFrom ds ns row count r = (bs : ℕ → MarkBox) (ss : List ℕ) → Sound (view width count ds ns bs ss)
-    → (j : ℕ) → j < width → 0 < getD row j 0 → has (record { desk = suc j; number = getD row j 0 }) (ids (view width r ds ns bs ss)) ≡ false
+-- A mark stands at a place from p on, of the first so many.
+pub record StandsFrom (ds ns : List ℕ) (count p : ℕ) (i : MarkId) : Type 0 where
+  pub place : ℕ
+  pub low : p ≤ place
+  pub high : place < count
+  pub name : nameAt ds ns place ≡ i
+
+-- So does each mark that a row names.
+abbrev pub AllFrom : List ℕ → List ℕ → List ℕ → ℕ → ℕ → Type 0
+AllFrom ds ns row count p = (j : ℕ) → j < width → 0 < getD row j 0 → StandsFrom ds ns count p (record { desk = suc j; number = getD row j 0 })
+
+-- The last place from which on all marks that a row names stand: that of the oldest of them, the count where it names none; 0 where there is no such place.
+pub record Oldest (ds ns row : List ℕ) (count r : ℕ) : Type 0 where
+  pub within : r ≤ count
+  pub from : 0 < r → AllFrom ds ns row count r
+  pub last : (p : ℕ) → p ≤ count → AllFrom ds ns row count p → p ≤ r
 
 -- The false-stamp test by rows: an entry precedes another, or the previous mark of the desk neither is an entry nor precedes one.
 abbrev pub falseBy : List ℕ → List ℕ → ℕ → ℕ → Bool

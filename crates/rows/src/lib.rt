@@ -1,15 +1,15 @@
 // The engine's inner functions over lent arrays and rows by value: one count for each desk.
 ghost use mathlib.Core.Path.{_≡_};
-ghost use mathlib.Core.Bool.{false, _&&_};
+ghost use mathlib.Core.Bool.{_&&_};
 ghost use Prim.Native.Nat.{ℕ, suc, max, _+_, _-_, _*_, _≤_, _<_};
 ghost use lib.Dec.{leb};
 ghost use lib.ListN.{length, getD};
 ghost use Rattle.frame.specs.Frame.{entriesOf};
 ghost use Rattle.frame.specs.declared.MarkBox.{MarkBox};
-ghost use Rattle.causality.specs.Marks.{places, has};
+ghost use Rattle.causality.specs.Marks.{places};
 ghost use Rattle.causality.proofs.Rows.{rowOf};
 ghost use Rattle.rows.specs.View.{width, rowFn, markAt, heldMark, Named, allWithin, namesIn, sameCounts, boxAt, SameOutside};
-ghost use Rattle.rows.specs.Steps.{Joined, Traced, NamedFrom, EntriesIn, HasSlot, Stored, falseBy};
+ghost use Rattle.rows.specs.Steps.{Joined, Traced, Oldest, EntriesIn, HasSlot, Stored, falseBy};
 use causality::Place;
 use frame::DESKS;
 use frame::MarkBox;
@@ -105,7 +105,7 @@ fn names(row: [u16; WIDTH]) -> usize
     n
 }
 
-// A place before which no mark that a row names stands: that of the oldest of them, or 0 where not all are among the first so many.
+// The place of the oldest of the marks that a row names: the count where it names none, 0 where not all are among the first so many.
 pub fn oldest<'a>(
     desks: &'a [u8; PLACES],
     numbers: &'a [u16; PLACES],
@@ -113,7 +113,7 @@ pub fn oldest<'a>(
     count: usize,
 ) -> usize
     requires { ⌜ (count ≤ places) × Named width count (now desks) ⌝ }
-    ensures { λ r. ⌜ (r ≤ count) × NamedFrom (now (desks .entry)) (now (numbers .entry)) row count r ⌝ }
+    ensures { λ r. ⌜ Oldest (now (desks .entry)) (now (numbers .entry)) row count r ⌝ }
 {
     let mut left = names(row);
     let mut p = count;

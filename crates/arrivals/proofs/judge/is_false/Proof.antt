@@ -3,6 +3,7 @@ use borrow.Author.Needs.{needs}
 use lib.ListN.{length-replicate}
 use Prim.Native.Nat.{ℕ}
 use Rattle.rows.specs.View.{heldId, width}
+use Rattle.rows.proofs.OldestLaws.{oldest-before}
 use Rattle.arrivals.proofs.JudgeLaws.{false-found}
 use Rattle.arrivals.proofs.judge.is_false.Statement.{statement}
 use Rattle.arrivals.proofs.judge.is_false.Tie as tie
@@ -16,8 +17,8 @@ returns c = λ bs s t.
     let h = a .h in
     let e = o .oldest .ensures in
     let w = c .before .trace in
-    false-found width (a .count) (o .oldest .result) (a .desks .now) (a .numbers .now) bs (a .stamps .now) (b .pre .1) (e .0) (heldId h) (h .extent) (h .row) (k .asked .result) (w .last .1 .1 .1 .1 .0)
-    (b .pre .2) (b .pre .3) (k .asked .ensures .named) (k .asked .ensures .previous) (e .1 bs (a .stamps .now) s) (w .ensures .counts bs)
+    false-found width (a .count) (o .oldest .result) (a .desks .now) (a .numbers .now) bs (a .stamps .now) (b .pre .1) (e .within) (heldId h) (h .extent) (h .row) (k .asked .result) (w .last .1 .1 .1 .1 .0)
+    (b .pre .2) (b .pre .3) (k .asked .ensures .named) (k .asked .ensures .previous) (oldest-before (a .desks .now) (a .numbers .now) (k .asked .result) (a .count) (o .oldest .result) e bs (a .stamps .now) s) (w .ensures .counts bs)
     (c .false-stamp .result) (c .false-stamp .ensures) s t
 
 pub is-false-spec : {M : Type 1} → statement M
