@@ -1,7 +1,7 @@
 // Receive works on a desk's lent arrays in place. wdesks and so on are the arrays of the waiting marks.
 ghost use Rattle.executed.specs.Arrays.{here, found, left};
 ghost use Rattle.waiting.specs.Queue.{here as heldHere, found as heldFound, left as heldLeft};
-ghost use Rattle.arrivals.specs.Kept.{KeptIn};
+ghost use Rattle.verdict.specs.Kept.{KeptIn};
 ghost use Rattle.abi.specs.Exports.{ReceiveExport};
 use numbers::ReceiveAnswer;
 use rows::BOX;

@@ -21,9 +21,10 @@ use Rattle.executed.specs.Arrays.{Arrays, Takes, Took}
 use Rattle.waiting.specs.Queue.{Pushed, waitingIn}
 use Rattle.waiting.specs.declared.Waiting.{Waiting as Queue}
 use Rattle.arrivals.specs.declared.Released.{Released}
-use Rattle.arrivals.specs.Kept.{KeptIn, stateIn}
-use Rattle.arrivals.specs.Steps.{Arrived, Between, Judgement, Midway, ReleasePromise, holds, judgement, knows, refuses, runs}
-use Rattle.arrivals.proofs.Invariant.{executed-length, kept-few, waiting-length}
+use Rattle.verdict.specs.Kept.{KeptIn, stateIn}
+use Rattle.verdict.specs.Judgement.{Judgement, holds, judgement, knows, refuses, runs}
+use Rattle.arrivals.specs.Steps.{Arrived, Between, Midway, ReleasePromise}
+use Rattle.verdict.proofs.Invariant.{executed-length, kept-few, waiting-length}
 use Rattle.arrivals.proofs.Receiving.{act, judged-holds, judged-runs, receive-act}
 use Rattle.arrivals.proofs.Releasing.{between-arrived}
 

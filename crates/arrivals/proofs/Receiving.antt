@@ -13,7 +13,7 @@ use Rattle.causality.specs.Calls.{Received, arrive, executing, frameOfMark, ful
 use Rattle.causality.specs.Marks.{any, find, waitingPlaces}
 use Rattle.causality.specs.State.{Mark, State, falseStamp, markId, ready}
 use Rattle.causality.proofs.Cases.{Arrives}
-use Rattle.arrivals.specs.Steps.{Judgement, admission, holds, judgement, knownIf, knows, meeting, refuses, runs}
+use Rattle.verdict.specs.Judgement.{Judgement, admission, holds, judgement, knownIf, knows, meeting, refuses, runs}
 
 -- WHAT A JUDGEMENT DOES
 

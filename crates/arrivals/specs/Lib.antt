@@ -1,3 +1,2 @@
 -- The modules of the definitions.
-pub mod Kept
 pub mod Steps

@@ -3,16 +3,15 @@ ghost use Rattle.causality.proofs.Fit.{Fit};
 ghost use Rattle.rows.specs.View.{width, heldMark};
 ghost use Rattle.executed.specs.Arrays.{here, found, left};
 ghost use Rattle.waiting.specs.Queue.{here as heldHere, found as heldFound, left as heldLeft};
-ghost use Rattle.arrivals.specs.Kept.{KeptIn};
+ghost use Rattle.verdict.specs.Kept.{KeptIn};
 ghost use Rattle.arrivals.specs.Steps.{Arrived};
-use crate::Verdict;
-use crate::judge;
 use crate::release;
 use causality::Received;
 use rows::BOX;
 use rows::Held;
 use rows::PLACES;
 use rows::WIDTH;
+use verdict::Verdict;
 use waiting::WAITING;
 
 // Nothing is stored before the verdict. wdesks and so on are the arrays of the waiting marks.
@@ -42,7 +41,7 @@ pub fn arrive(
 {
     let at = *count;
     let held = *waiting;
-    match judge::judge(
+    match verdict::judge(
         own,
         at,
         desks,

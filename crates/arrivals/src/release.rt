@@ -3,7 +3,6 @@ ghost use Rattle.executed.specs.Arrays.{here, found, left};
 ghost use Rattle.waiting.specs.Queue.{here as heldHere, found as heldFound, left as heldLeft};
 ghost use Rattle.arrivals.specs.Steps.{Midway, Turns, Turned, ReleasePromise};
 use crate::Released;
-use crate::judge;
 use rows::BOX;
 use rows::PLACES;
 use rows::WIDTH;
@@ -35,7 +34,7 @@ fn turn(
     let h = rows::mark_at(wdesks, wnumbers, wboxes, wstamps, i);
     waiting::remove(waiting, wdesks, wnumbers, wboxes, wstamps, i);
     let at = *count;
-    if judge::is_false(desks, numbers, stamps, at, h) {
+    if verdict::is_false(desks, numbers, stamps, at, h) {
         return false;
     }
     executed::execute(

@@ -19,7 +19,7 @@ use Rattle.causality.proofs.Rows.{rowOf}
 use Rattle.rows.specs.View.{heldMark, width}
 use Rattle.rows.proofs.ByRows.{row-entries}
 use Rattle.executed.specs.Arrays.{Arrays}
-use Rattle.arrivals.specs.Kept.{KeptIn, stateIn}
+use Rattle.verdict.specs.Kept.{KeptIn, stateIn}
 use Rattle.arrivals.specs.Steps.{Arrived}
 use Rattle.desk.specs.Lent.{Receiving}
 

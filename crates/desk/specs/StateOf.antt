@@ -3,7 +3,7 @@ use Rattle.causality.specs.State.{State}
 use Rattle.rows.specs.View.{width, view, boxAt}
 use Rattle.executed.specs.Arrays.{Arrays, arrays}
 use Rattle.waiting.specs.Queue.{waitingIn}
-use Rattle.arrivals.specs.Kept.{KeptIn}
+use Rattle.verdict.specs.Kept.{KeptIn}
 use Rattle.desk.specs.declared.Desk.{Desk}
 
 abbrev pub stateOf : Desk → State

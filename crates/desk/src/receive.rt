@@ -1,7 +1,7 @@
 // Receive: a frame is executed, set waiting, known or refused; after an executed mark, waiting marks that have become ready are executed or dropped.
 ghost use Rattle.executed.specs.Arrays.{here, found, left};
 ghost use Rattle.waiting.specs.Queue.{here as heldHere, found as heldFound, left as heldLeft};
-ghost use Rattle.arrivals.specs.Kept.{KeptIn};
+ghost use Rattle.verdict.specs.Kept.{KeptIn};
 ghost use Rattle.desk.specs.Lent.{Receiving};
 ghost use Rattle.desk.specs.Promises.{ReceivePromise};
 ghost use Rattle.desk.specs.StateOf.{Kept};

@@ -7,8 +7,8 @@ use Rattle.rows.specs.View.{heldMark}
 use Rattle.executed.specs.Arrays.{Arrays, here}
 use Rattle.waiting.specs.Queue.{here as heldHere}
 use Rattle.waiting.specs.declared.Waiting.{Waiting}
-use Rattle.arrivals.specs.Kept.{stateIn}
-use Rattle.arrivals.specs.Steps.{judgement, verdictOf}
+use Rattle.verdict.specs.Kept.{stateIn}
+use Rattle.verdict.specs.Judgement.{judgement, verdictOf}
 use Rattle.arrivals.proofs.Arriving.{holds-room, promise-holds, promise-known, promise-refused, promise-runs, runs-midway, runs-takes}
 use Rattle.arrivals.proofs.arrive.arrive.Statement.{statement}
 use Rattle.arrivals.proofs.arrive.arrive.Tie as tie

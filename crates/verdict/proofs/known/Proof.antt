@@ -1,9 +1,9 @@
 -- `known` meets its contract: by what `same_mark` found.
 use mathlib.Core.Path.{_∙_, ap, sym}
-use Rattle.arrivals.specs.Steps.{knownIf}
+use Rattle.verdict.specs.Judgement.{knownIf}
 use borrow.Author.Needs.{needs}
-use Rattle.arrivals.proofs.judge.known.Statement.{statement}
-use Rattle.arrivals.proofs.judge.known.Tie as tie
+use Rattle.verdict.proofs.known.Statement.{statement}
+use Rattle.verdict.proofs.known.Tie as tie
 
 returns : tie.Need-returns
 returns c = ap knownIf (sym (c .if1 .taken) ∙ c .before .same-mark .ensures)

@@ -13,7 +13,7 @@ use Rattle.executed.specs.Rows.{Lent}
 use Rattle.executed.proofs.Chain.{lent-of}
 use Rattle.executed.specs.Arrays.{Arrays}
 use Rattle.waiting.specs.declared.Waiting.{Waiting}
-use Rattle.arrivals.specs.Kept.{KeptIn, stateIn}
+use Rattle.verdict.specs.Kept.{KeptIn, stateIn}
 use Rattle.rows.proofs.Arrays.{view-at, view-length}
 
 -- As many marks as the counts say.

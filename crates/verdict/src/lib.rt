@@ -1,4 +1,4 @@
-// What Receive finds of a mark: conditions 7 to 11, Known, or what is to be done.
+// What Receive finds of a mark, over lent arrays: conditions 7 to 11, Known, or what is to be done.
 ghost use mathlib.Core.Path.{_≡_};
 ghost use mathlib.Core.Bool.{_&&_};
 ghost use Prim.Native.Nat.{_+_, _≤_};
@@ -7,8 +7,7 @@ ghost use Rattle.causality.specs.Calls.{frameOfMark};
 ghost use Rattle.causality.proofs.Fit.{Fit};
 ghost use Rattle.rows.specs.View.{width, rowFn, Named, heldMark, sameCounts};
 ghost use Rattle.waiting.specs.Queue.{queueOf};
-ghost use Rattle.arrivals.specs.Steps.{sameBox, verdictOf, knownIf, judgement, unmadeBy, Asked, FalseIf, AdmittedBy, Judges, lentState};
-use crate::Verdict;
+ghost use Rattle.verdict.specs.Judgement.{sameBox, verdictOf, knownIf, judgement, unmadeBy, Asked, FalseIf, AdmittedBy, Judges, lentState};
 use causality::MarkId;
 use causality::Place;
 use frame::MarkBox;
@@ -18,6 +17,14 @@ use rows::Held;
 use rows::PLACES;
 use rows::WIDTH;
 use waiting::WAITING;
+
+// What Receive finds of a mark: a refusal, or what it does.
+pub enum Verdict {
+    Refused(Refusal),
+    Known,
+    Waits,
+    Runs,
+}
 
 fn same_box(a: MarkBox, b: MarkBox) -> bool
     ensures { λ r. ⌜ r ≡ sameBox a b ⌝ }
@@ -79,7 +86,7 @@ fn asked(mut row: [u16; WIDTH], desk: u8, number: u16) -> [u16; WIDTH]
 }
 
 // The false-stamp test of a ready mark. The trace stops at the oldest of the marks whose standing matters.
-pub(crate) fn is_false<'a>(
+pub fn is_false<'a>(
     desks: &'a [u8; PLACES],
     numbers: &'a [u16; PLACES],
     stamps: &'a [u16; PLACES * WIDTH],
@@ -146,7 +153,7 @@ fn known(a: Held, b: Held) -> Verdict
 }
 
 // 7; Known or 8 of a mark that is executed or waiting; else the above.
-pub(crate) fn judge<'a>(
+pub fn judge<'a>(
     own: u8,
     count: usize,
     desks: &'a [u8; PLACES],

@@ -1,10 +1,10 @@
 -- `same_mark` meets its contract: by what `same_box` and `rows::same_counts` found.
-use Rattle.arrivals.proofs.JudgeLaws.{first-failed, first-passed}
+use Rattle.verdict.proofs.JudgeLaws.{first-failed, first-passed}
 use Rattle.rows.specs.View.{width, rowFn, sameCounts}
-use Rattle.arrivals.specs.Steps.{sameBox}
+use Rattle.verdict.specs.Judgement.{sameBox}
 use borrow.Author.Needs.{needs}
-use Rattle.arrivals.proofs.judge.same_mark.Statement.{statement}
-use Rattle.arrivals.proofs.judge.same_mark.Tie as tie
+use Rattle.verdict.proofs.same_mark.Statement.{statement}
+use Rattle.verdict.proofs.same_mark.Tie as tie
 
 returns : tie.Need-returns
 returns c = let a = c .before .before .before .before .args in first-failed _ (sameBox (a .a .extent) (a .b .extent)) (sameCounts width (rowFn (a .a .row)) (rowFn (a .b .row))) (c .before .same-box .ensures) (c .if1 .taken)

@@ -17,7 +17,7 @@ use Rattle.causality.proofs.Logic.{and-fst, and-intro, and-snd, bool-ext, split
 use Rattle.causality.proofs.RowLaws.{entriesOfRow, row-of-entries, show, shown}
 use Rattle.causality.proofs.Rows.{rowOf}
 use Rattle.rows.specs.View.{rowFn, sameCounts}
-use Rattle.arrivals.specs.Steps.{sameBox}
+use Rattle.verdict.specs.Judgement.{sameBox}
 use Rattle.rows.proofs.ByRows.{entries-cong}
 
 -- 7: of this desk and not yet made, by the tally's count for this desk.

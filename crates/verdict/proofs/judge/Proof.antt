@@ -12,11 +12,11 @@ use Rattle.executed.specs.Arrays.{Arrays, arrays}
 use Rattle.executed.proofs.Chain.{found-inside, found-place}
 use Rattle.waiting.specs.Queue.{queueOf, waitingIn}
 use Rattle.waiting.specs.declared.Waiting.{Waiting}
-use Rattle.arrivals.specs.Kept.{stateIn}
-use Rattle.arrivals.proofs.Invariant.{kept-count, kept-few, kept-lent, kept-named, kept-own, kept-sound, kept-total, waiting-length}
-use Rattle.arrivals.proofs.Judging.{judge-made, judge-unmade, kept-tallies, meet-executed, meet-none, meet-waiting}
-use Rattle.arrivals.proofs.judge.judge.Statement.{statement}
-use Rattle.arrivals.proofs.judge.judge.Tie as tie
+use Rattle.verdict.specs.Kept.{stateIn}
+use Rattle.verdict.proofs.Invariant.{kept-count, kept-few, kept-lent, kept-named, kept-own, kept-sound, kept-total, waiting-length}
+use Rattle.verdict.proofs.Judging.{judge-made, judge-unmade, kept-tallies, meet-executed, meet-none, meet-waiting}
+use Rattle.verdict.proofs.judge.Statement.{statement}
+use Rattle.verdict.proofs.judge.Tie as tie
 
 -- What is lent.
 abbrev marks : tie.Start → Arrays

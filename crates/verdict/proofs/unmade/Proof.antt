@@ -2,8 +2,8 @@
 use mathlib.Core.Logic.{⊎-elim}
 use Rattle.frame.proofs.Tests.{tests}
 use borrow.Author.Needs.{needs}
-use Rattle.arrivals.proofs.judge.unmade.Statement.{statement}
-use Rattle.arrivals.proofs.judge.unmade.Tie as tie
+use Rattle.verdict.proofs.unmade.Statement.{statement}
+use Rattle.verdict.proofs.unmade.Tie as tie
 
 returns : tie.Need-returns
 returns c = search tests

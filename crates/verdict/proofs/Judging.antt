@@ -18,12 +18,12 @@ use Rattle.causality.proofs.RowLaws.{entriesOfRow}
 use Rattle.rows.specs.View.{allWithin, boxAt, heldId, heldMark, markAt, placeAt, rowFn, sameCounts, width}
 use Rattle.executed.specs.Arrays.{Arrays}
 use Rattle.waiting.specs.declared.Waiting.{Waiting}
-use Rattle.arrivals.specs.Kept.{KeptIn, stateIn}
-use Rattle.arrivals.specs.Steps.{Tallies, admission, holds, judgement, knownIf, meeting, refuses, runs, sameBox, unmadeBy}
+use Rattle.verdict.specs.Kept.{KeptIn, stateIn}
+use Rattle.verdict.specs.Judgement.{Tallies, admission, holds, judgement, knownIf, meeting, refuses, runs, sameBox, unmadeBy}
 use Rattle.rows.proofs.Arrays.{view-at}
 use Rattle.rows.proofs.ByRows.{ready-by-tally, row-at}
-use Rattle.arrivals.proofs.Invariant.{kept-fit, kept-own, kept-waiting-fit}
-use Rattle.arrivals.proofs.Judged.{known-by-row, unmade-by-row}
+use Rattle.verdict.proofs.Invariant.{kept-fit, kept-own, kept-waiting-fit}
+use Rattle.verdict.proofs.Judged.{known-by-row, unmade-by-row}
 use Rattle.rows.proofs.Places.{found-none, found-some}
 
 -- 9, 10, 11, by counts and tally.

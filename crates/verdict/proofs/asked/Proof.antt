@@ -3,11 +3,11 @@ use mathlib.Core.Path.{refl}
 use Prim.Native.Nat.{_-_}
 use lib.Seq.{getD-set-same}
 use Rattle.rows.specs.View.{width}
-use Rattle.arrivals.proofs.JudgeLaws.{asked-set}
+use Rattle.verdict.proofs.JudgeLaws.{asked-set}
 use borrow.Author.Needs.{needs}
 use native.Mathlib.Omega.{arith}
-use Rattle.arrivals.proofs.judge.asked.Statement.{statement}
-use Rattle.arrivals.proofs.judge.asked.Tie as tie
+use Rattle.verdict.proofs.asked.Statement.{statement}
+use Rattle.verdict.proofs.asked.Tie as tie
 
 returns : tie.Need-returns
 returns c =

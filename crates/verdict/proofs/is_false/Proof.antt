@@ -4,9 +4,9 @@ use lib.ListN.{length-replicate}
 use Prim.Native.Nat.{ℕ}
 use Rattle.rows.specs.View.{heldId, width}
 use Rattle.rows.proofs.OldestLaws.{oldest-before}
-use Rattle.arrivals.proofs.JudgeLaws.{false-found}
-use Rattle.arrivals.proofs.judge.is_false.Statement.{statement}
-use Rattle.arrivals.proofs.judge.is_false.Tie as tie
+use Rattle.verdict.proofs.JudgeLaws.{false-found}
+use Rattle.verdict.proofs.is_false.Statement.{statement}
+use Rattle.verdict.proofs.is_false.Tie as tie
 
 returns : tie.Need-returns
 returns c = λ bs s t.

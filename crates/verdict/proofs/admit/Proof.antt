@@ -8,9 +8,9 @@ use Rattle.frame.specs.declared.MarkBox.{MarkBox}
 use Rattle.causality.specs.State.{Mark, State}
 use Rattle.rows.specs.View.{view, width}
 use Rattle.rows.proofs.Arrays.{view-length}
-use Rattle.arrivals.proofs.Judging.{admit-crowded, admit-false, admit-full, admit-holds, admit-runs, ready-test}
-use Rattle.arrivals.proofs.judge.admit.Statement.{statement}
-use Rattle.arrivals.proofs.judge.admit.Tie as tie
+use Rattle.verdict.proofs.Judging.{admit-crowded, admit-false, admit-full, admit-holds, admit-runs, ready-test}
+use Rattle.verdict.proofs.admit.Statement.{statement}
+use Rattle.verdict.proofs.admit.Tie as tie
 
 -- The state of a desk that lends the arrays.
 abbrev state : tie.Start → ℕ → (ℕ → MarkBox) → List Mark → State

@@ -1,0 +1,5 @@
+-- The modules of the laws.
+pub mod Invariant
+pub mod Judged
+pub mod JudgeLaws
+pub mod Judging
