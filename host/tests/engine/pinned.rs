@@ -1,6 +1,5 @@
 //! The examples that the engine's definitions are pinned by beside those of document 01 (causality/specs/Examples.antt).
 use kaungimewe::peers::model::codec;
-use kaungimewe::peers::Engine;
 use kaungimewe::{Desk, Mark, MarkBox, MarkId, Reception, Refusal};
 
 use crate::full::chained;
