@@ -43,9 +43,9 @@ impl Desk {
         }
     }
 
-    fn find_apart(self, a: MarkId, room: usize) -> ApartList
+    fn find_apart(self, a: MarkId, lent: usize) -> ApartList
         requires { ⌜ Kept self ⌝ }
-        ensures { λ r. ⌜ ApartFound (stateOf self) (idOf a) room r ⌝ }
+        ensures { λ r. ⌜ ApartFound (stateOf self) (idOf a) lent r ⌝ }
     {
         queries::apart::apart_list(
             &self.desks,
@@ -56,7 +56,7 @@ impl Desk {
             &self.last,
             &self.before,
             a,
-            room,
+            lent,
         )
     }
 

@@ -32,6 +32,10 @@ pub first-passed : (x y a b : Bool) → x ≡ a → not x ≡ false → y ≡ b 
 first-passed true y a b e f g = rw (← e) g
 first-passed false y a b e f g = let z : _≡_ {A = ℕ} 0 1 = cc in absurd (omega arith)
 
+-- Of two tests of which one is enough, the first failed: the second tells.
+pub second-tells : (x a b : Bool) → a ≡ false → x ≡ b → x ≡ (a || b)
+second-tells x a b e f = rw e f
+
 -- Two counts that tell the same of mark k do so beside a third.
 max-test : (x a b k : ℕ) → (x < k → leb k a ≡ leb k b) → ltb (max x a) k ≡ ltb (max x b) k
 max-test x a b k f = bool-ext (ltb (max x a) k) (ltb (max x b) k) (go a b f) (go b a (λ h. sym (f h)))
