@@ -10,9 +10,9 @@ use Rattle.rows.specs.View.{boxAt}
 use Rattle.executed.specs.Arrays.{Lending}
 use Rattle.waiting.specs.declared.Waiting.{Waiting}
 use Rattle.pairs.specs.Pairs.{filled}
-use Rattle.queries.specs.Found.{ApartFound}
+use Rattle.concurrent.specs.Found.{ApartFound}
 use Rattle.queries.specs.Lent.{OfCount}
-use Rattle.queries.specs.declared.ApartList.{ApartList}
+use Rattle.concurrent.specs.declared.ApartList.{ApartList}
 use Rattle.desk.specs.Lent.{apartLent, deskOf}
 use Rattle.desk.specs.StateOf.{Kept, stateOf}
 use Rattle.desk.specs.declared.Desk.{Desk}

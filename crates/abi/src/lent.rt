@@ -1,19 +1,19 @@
 // Relate, Apart, First apart and Frame again over a desk's lent arrays.
 ghost use mathlib.Core.Path.{_≡_};
 ghost use Rattle.causality.specs.Meaning.{idOf};
-ghost use Rattle.queries.specs.Found.{ApartFound};
+ghost use Rattle.concurrent.specs.Found.{ApartFound};
 ghost use Rattle.queries.specs.Lent.{OfCount};
 ghost use Rattle.executed.specs.Rows.{Lent};
 ghost use Rattle.desk.specs.Lent.{SomeDesk, againLent, queryLent, apartLent};
 ghost use Rattle.abi.specs.Exports.{markId, RelateExport, ApartExport, FirstExport, AgainExport};
 ghost use Rattle.numbers.specs.Numbers.{countedNumbers};
 use causality::MarkId;
+use concurrent::ApartList;
 use frame::Number;
 use numbers::ApartAnswer;
 use numbers::FirstAnswer;
 use numbers::RelateAnswer;
 use numbers::WriteAnswer;
-use queries::ApartList;
 use rows::BOX;
 use rows::PLACES;
 use rows::WIDTH;
@@ -75,7 +75,7 @@ fn find_apart<'a>(
     ensures { λ r. ⌜ OfCount count desks numbers stamps tally last before (λ st. ApartFound st (idOf (markId a n)) room r) ⌝ }
 {
     let given = named(a, n);
-    queries::apart::apart_list(
+    concurrent::apart_list(
         desks,
         numbers,
         stamps,

@@ -7,8 +7,8 @@ use Rattle.causality.specs.Calls.{apartCount, apartOf, apartPairs}
 use Rattle.causality.specs.Meaning.{counting, idOf}
 use Rattle.pairs.proofs.Filled.{filled-over}
 use Rattle.pairs.specs.Pairs.{filled}
-use Rattle.queries.specs.Found.{ApartFound}
-use Rattle.queries.specs.declared.ApartList.{ApartList}
+use Rattle.concurrent.specs.Found.{ApartFound}
+use Rattle.concurrent.specs.declared.ApartList.{ApartList}
 use Rattle.desk.specs.Promises.{ApartPromise}
 use Rattle.desk.specs.StateOf.{stateOf}
 use Rattle.desk.specs.declared.CountedDesk.{CountedDesk}

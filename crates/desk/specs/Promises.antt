@@ -9,7 +9,7 @@ use Rattle.frame.specs.declared.MarkBox.{MarkBox}
 use Rattle.causality.specs.declared.MarkId.{MarkId}
 use Rattle.causality.specs.Calls.{new, mark, receive, relate, apartCount, apartPairs, firstApart, frameAgainSize, frameAgainBytes}
 use Rattle.causality.specs.Meaning.{idOf, creation, numbering, reception, relating, counting, lowestGiven}
-use Rattle.queries.specs.Found.{ApartFound}
+use Rattle.concurrent.specs.Found.{ApartFound}
 use Rattle.desk.specs.declared.Desk.{Desk}
 use Rattle.desk.specs.declared.CreatedDesk.{CreatedDesk}
 use Rattle.desk.specs.declared.MarkedDesk.{MarkedDesk}

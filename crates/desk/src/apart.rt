@@ -1,14 +1,14 @@
 // Apart: the executed marks concurrent with a given one, by place.
 ghost use mathlib.Core.Path.{_≡_};
 ghost use Rattle.causality.specs.Meaning.{idOf};
-ghost use Rattle.queries.specs.Found.{ApartFound};
+ghost use Rattle.concurrent.specs.Found.{ApartFound};
 ghost use Rattle.desk.specs.Promises.{ApartPromise, ApartListPromise};
 ghost use Rattle.desk.specs.StateOf.{stateOf, Kept};
 use crate::CountedDesk;
 use crate::Desk;
 use crate::ListedDesk;
 use causality::MarkId;
-use queries::ApartList;
+use concurrent::ApartList;
 
 impl Desk {
     // In a lent run of pairs. By hand, since a slice of structs is lent; a refusal has an empty list.
@@ -26,7 +26,7 @@ impl Desk {
         requires { ⌜ Kept self ⌝ }
         ensures { λ r. ⌜ ApartListPromise self a room r ⌝ }
     {
-        let found = queries::apart::apart_list(
+        let found = concurrent::apart_list(
             &self.desks,
             &self.numbers,
             &self.stamps,
@@ -47,7 +47,7 @@ impl Desk {
         requires { ⌜ Kept self ⌝ }
         ensures { λ r. ⌜ ApartFound (stateOf self) (idOf a) lent r ⌝ }
     {
-        queries::apart::apart_list(
+        concurrent::apart_list(
             &self.desks,
             &self.numbers,
             &self.stamps,

@@ -7,14 +7,12 @@ use lib.Dec.{T, leb, ltb}
 use lib.ListN.{length, getD}
 use Rattle.frame.specs.declared.MarkBox.{MarkBox}
 use Rattle.frame.specs.Mark.{MarkId}
-use Rattle.causality.specs.Marks.{has, keep, tally}
-use Rattle.causality.specs.State.{concurrent, ids, precedes}
+use Rattle.causality.specs.Marks.{has, tally}
+use Rattle.causality.specs.State.{ids, precedes}
 use Rattle.causality.proofs.Reach.{Sound}
 use Rattle.causality.proofs.RowLaws.{under}
 use Rattle.executed.specs.Rows.{Chain, lastIn}
-use Rattle.pairs.specs.declared.Listed.{Listed}
 use Rattle.rows.specs.View.{Named, nameAt, namesDown, rowFn, view, width}
-use Rattle.queries.specs.Found.{Spare}
 
 -- Of a mark that is none of the first `to`, r says whether entries lead to it from a row and the marks before a place.
 abbrev pub Leads : List ℕ → List ℕ → List ℕ → List ℕ → ℕ → ℕ → MarkId → Bool → Type 0
@@ -54,10 +52,3 @@ Down ds ns bf d at (suc k) q = (1 ≤ q) × (q ≤ at) × (nameAt ds ns (q - 1) 
 -- Of the first k marks of desk d, r are reached from a row and the marks before a place. n: how many desks.
 abbrev pub SeenFrom : ℕ → List ℕ → List ℕ → List ℕ → List ℕ → ℕ → ℕ → ℕ → ℕ → Type 0
 SeenFrom n ds ns ss row at d k r = (bs : ℕ → MarkBox) → Sound (view n at ds ns bs ss) → r ≡ min k (under (view n at ds ns bs ss) (λ d. 0) (rowFn row) d)
-
--- The marks apart from that at place p, of the first `count`.
-pub record ApartAt (ds ns ss : List ℕ) (count p : ℕ) (r : Listed) : Type 0 where
-  pub few : r .count ≤ count
-  pub spare : Spare r
-  pub names : (bs : ℕ → MarkBox) → Sound (view width count ds ns bs ss)
-      → namesDown (r .count) (r .desks) (r .numbers) ≡ keep (concurrent (view width count ds ns bs ss) (nameAt ds ns p)) (ids (view width count ds ns bs ss))

@@ -7,7 +7,7 @@ use causality::Place;
 use rows::PLACES;
 use rows::WIDTH;
 
-pub(crate) fn past<'a>(
+pub fn past<'a>(
     desks: &'a [u8; PLACES],
     numbers: &'a [u16; PLACES],
     stamps: &'a [u16; PLACES * WIDTH],

@@ -52,9 +52,9 @@ use Rattle.pairs.proofs.fill.Met as fill-thm
 use Rattle.pairs.specs.Pairs.{filled}
 use Rattle.rows.specs.View.{width}
 use Rattle.pairs.specs.declared.Listed.{Listed}
-use Rattle.queries.proofs.ApartList as F
-use Rattle.queries.proofs.ApartList.Laws as F′
-use Rattle.queries.specs.declared.ApartList.{ApartList}
+use Rattle.concurrent.proofs.ApartList as F
+use Rattle.concurrent.proofs.ApartList.Laws as F′
+use Rattle.concurrent.specs.declared.ApartList.{ApartList}
 use Rattle.desk.specs.Lent.{SomeDesk, apartLent}
 use Rattle.desk.proofs.Invariant.{kept-lent}
 use Rattle.numbers.proofs.ApartAnswer as R

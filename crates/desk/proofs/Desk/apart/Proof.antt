@@ -54,13 +54,13 @@ use Rattle.pairs.specs.declared.Listed.{Listed}
 use Rattle.desk.specs.Promises.{ApartPromise}
 use Rattle.causality.specs.Meaning.{idOf}
 use Rattle.desk.specs.StateOf.{Kept, stateOf}
-use Rattle.queries.specs.Found.{ApartFound}
-use Rattle.queries.specs.declared.ApartList.{ApartList}
+use Rattle.concurrent.specs.Found.{ApartFound}
+use Rattle.concurrent.specs.declared.ApartList.{ApartList}
 use Rattle.desk.specs.declared.CountedDesk.{CountedDesk}
 use Rattle.desk.specs.declared.Desk.{Desk}
 use Rattle.desk.proofs.LentPairs.{counted-by, lent-pairs}
-use Rattle.queries.proofs.ApartList as F
-use Rattle.queries.proofs.ApartList.Laws as F′
+use Rattle.concurrent.proofs.ApartList as F
+use Rattle.concurrent.proofs.ApartList.Laws as F′
 use Rattle.desk.proofs.CountedDesk as R
 use Rattle.desk.proofs.CountedDesk.Laws as R′
 use Rattle.desk.proofs.Desk as S

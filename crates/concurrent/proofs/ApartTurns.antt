@@ -23,9 +23,9 @@ use Rattle.rows.proofs.Arrays.{sound-below}
 use Rattle.rows.proofs.Places.{has-at, not-before, precedes-no-earlier, precedes-there}
 use Rattle.rows.proofs.RowSteps.{not-leb}
 use Rattle.rows.proofs.Slots.{zero-one, zeros}
-use Rattle.queries.specs.Found.{Spare}
+use Rattle.concurrent.specs.Found.{Spare}
 use Rattle.queries.specs.Steps.{PastTold}
-use Rattle.queries.proofs.OwnDesk.{own-follows}
+use Rattle.concurrent.proofs.OwnDesk.{own-follows}
 
 -- THE TEST
 

@@ -1,7 +1,7 @@
 -- `reaches` meets its contract: its two tests.
 use borrow.Author.Tests.{le-ltb, lt-ltb}
-use Rattle.queries.proofs.apart.reaches.Statement.{statement}
-use Rattle.queries.proofs.apart.reaches.Tie as tie
+use Rattle.concurrent.proofs.reaches.Statement.{statement}
+use Rattle.concurrent.proofs.reaches.Tie as tie
 
 returns : tie.Need-returns
 returns c = rw (lt-ltb _ _ (c .if1 .taken))

@@ -1,9 +1,9 @@
 -- `apart_list` meets its contract: its three ways out are those of `ApartWays`, from what find, apart and refused ensure.
 use borrow.Author.Needs.{needs}
 use Rattle.executed.proofs.Chain.{found-inside}
-use Rattle.queries.proofs.ApartWays.{apart-all-listed, apart-not-executed, apart-too-short}
-use Rattle.queries.proofs.apart.apart_list.Statement.{statement}
-use Rattle.queries.proofs.apart.apart_list.Tie as tie
+use Rattle.concurrent.proofs.ApartWays.{apart-all-listed, apart-not-executed, apart-too-short}
+use Rattle.concurrent.proofs.apart_list.Statement.{statement}
+use Rattle.concurrent.proofs.apart_list.Tie as tie
 
 returns : tie.Need-returns
 returns c own bs waiting l sound =

@@ -11,10 +11,10 @@ use Rattle.causality.proofs.Reach.{Sound}
 use Rattle.rows.specs.View.{view, width}
 use Rattle.rows.proofs.RowSteps.{named-at, named-less}
 use Rattle.rows.proofs.Slots.{zero-all}
 use Rattle.queries.specs.Steps.{PastTold}
-use Rattle.queries.proofs.ApartTurns.{ApartTo, apart-all, apart-none, turn-apart, turn-first, turn-later, turn-past}
-use Rattle.queries.proofs.apart.apart.Statement.{statement}
-use Rattle.queries.proofs.apart.apart.Tie as tie
+use Rattle.concurrent.proofs.ApartTurns.{ApartTo, apart-all, apart-none, turn-apart, turn-first, turn-later, turn-past}
+use Rattle.concurrent.proofs.apart.Statement.{statement}
+use Rattle.concurrent.proofs.apart.Tie as tie
 
 abbrev Inv-loop : tie.InvT-loop
 Inv-loop desks numbers stamps count p past first₀ list₀ q₀ first list q = ApartTo width desks numbers stamps count (p .0) q first list

@@ -1,4 +1,4 @@
-// Apart: the executed marks concurrent with a given one, by place.
+// Apart over lent arrays: the executed marks concurrent with a given one, by place.
 ghost use mathlib.Core.Path.{_≡_};
 ghost use mathlib.Core.Bool.{_&&_, _||_};
 ghost use Prim.Native.Nat.{_≤_, _<_};
@@ -9,18 +9,22 @@ ghost use Rattle.causality.specs.declared.Counted.the-variants.{Refused};
 ghost use Rattle.causality.proofs.Apart.{someFollower};
 ghost use Rattle.executed.specs.Rows.{Lent};
 ghost use Rattle.rows.specs.View.{width, rowFn, rowAt, Named};
-ghost use Rattle.queries.specs.Found.{ApartFound, Spare};
+ghost use Rattle.concurrent.specs.Found.{ApartAt, ApartFound, Spare};
 ghost use Rattle.queries.specs.Lent.{OfCount};
-ghost use Rattle.queries.specs.Steps.{ApartAt};
-use crate::ApartList;
-use crate::past::past;
 use causality::Counted;
 use causality::MarkId;
 use causality::Place;
 use frame::Refusal;
 use pairs::Listed;
+use queries::past::past;
 use rows::PLACES;
 use rows::WIDTH;
+
+// What Apart finds: the marks by place, none beside a refusal.
+pub struct ApartList {
+    pub list: Listed,
+    pub answer: Counted,
+}
 
 // Is mark x of a desk the first follower, of number f, or a later one? 0 is none.
 fn reaches(f: u16, x: u16) -> bool

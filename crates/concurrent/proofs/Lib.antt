@@ -1,0 +1,4 @@
+-- The modules of the laws and proofs.
+pub mod OwnDesk
+pub mod ApartTurns
+pub mod ApartWays
