@@ -1,6 +1,6 @@
 // New gives a desk by value; Mark works on its lent arrays in place.
 ghost use Rattle.executed.specs.Arrays.{here, found, left};
-ghost use Rattle.desk.specs.Lent.{MarkLent};
+ghost use Rattle.in_place.specs.Lent.{MarkLent};
 ghost use Rattle.abi.specs.Exports.{NewExport, MarkExport};
 use crate::NewAnswer;
 use desk::Desk;
@@ -53,7 +53,7 @@ pub extern "C" fn kaungimewe_mark_lent(
         low: low,
         high: high,
     };
-    numbers::marked(desk::mark::marking(
+    numbers::marked(in_place::mark::marking(
         own,
         count,
         desks,

@@ -4,7 +4,8 @@ ghost use Rattle.causality.specs.Meaning.{idOf};
 ghost use Rattle.concurrent.specs.Found.{ApartFound};
 ghost use Rattle.queries.specs.Lent.{OfCount};
 ghost use Rattle.executed.specs.Rows.{Lent};
-ghost use Rattle.desk.specs.Lent.{SomeDesk, againLent, queryLent, apartLent};
+ghost use Rattle.in_place.specs.Lent.{SomeDesk, againLent};
+ghost use Rattle.desk.specs.Lent.{queryLent, apartLent};
 ghost use Rattle.abi.specs.Exports.{markId, RelateExport, ApartExport, FirstExport, AgainExport};
 ghost use Rattle.numbers.specs.Numbers.{countedNumbers};
 use causality::MarkId;
@@ -178,7 +179,7 @@ pub extern "C" fn kaungimewe_frame_again_lent<'a>(
         (now (out .entry)) (now (out .exit)) r ⌝ }
 {
     let again = named(a, n);
-    numbers::written(desk::frame_again::write_again(
+    numbers::written(in_place::frame_again::write_again(
         desks,
         numbers,
         boxes,

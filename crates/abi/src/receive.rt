@@ -33,7 +33,7 @@ pub extern "C" fn kaungimewe_receive_lent(
         (found count desks numbers boxes stamps tally heads last before) (heldFound waiting wdesks wnumbers wboxes wstamps)
         (left count desks numbers boxes stamps tally heads last before) (heldLeft waiting wdesks wnumbers wboxes wstamps) (now (frame .entry)) r ⌝ }
 {
-    numbers::received(desk::receive::receiving(
+    numbers::received(in_place::receive::receiving(
         own,
         count,
         desks,

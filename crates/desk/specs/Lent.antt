@@ -1,4 +1,4 @@
--- Desks whose arrays are lent to a call.
+-- Desks whose arrays are lent to a call: what the calls promise of each (what they suppose of the arrays, and what Frame again is lent: in_place).
 use denote.Ref.{RefT}
 use mathlib.Core.List.{List}
 use mathlib.Core.Path.{_≡_}
@@ -28,14 +28,8 @@ deskOf own a q = record {
   queue = q;
 }
 
--- MARK, which is lent the arrays of the executed marks and told how many wait
+-- MARK, which is lent the arrays of the executed marks and told how many wait: of each desk that has these arrays and so many waiting marks
 
-pub record MarkLent (own waiting : ℕ) (a : Arrays) : Type 0 where
-  pub queue : Waiting
-  pub held : queue .count ≡ waiting
-  pub kept : Kept (deskOf own a queue)
-
--- Of each desk that has these arrays and so many waiting marks: what Mark promises.
 abbrev pub Marking : ℕ → ℕ → Arrays → Arrays → MarkBox → Lending (List ℕ) → Marked → Type 0
 Marking own waiting a b extent out r = (q : Waiting) → q .count ≡ waiting → Kept (deskOf own a q)
     → MarkPromise (deskOf own a q) extent (out .entry .now) (out .exit .now) (record { desk = deskOf own b q; answer = r })
@@ -47,20 +41,9 @@ Receiving own a q b r frame answer = ReceivePromise (deskOf own a q) frame (reco
 
 -- QUERIES, which are lent some of the arrays: `a` has them, by what is not lent
 
--- They are those of some desk that came from New and the calls.
-pub record SomeDesk {A : Type 0} (a : A → Arrays) : Type 0 where
-  pub own : ℕ
-  pub rest : A
-  pub queue : Waiting
-  pub kept : Kept (deskOf own (a rest) queue)
-
--- What is promised of every such desk.
+-- What is promised of every desk that lends them.
 abbrev pub EachDesk : {A : Type 0} → (A → Arrays) → (Desk → Type 0) → Type 0
 EachDesk a P = (own : ℕ) (rest : _) (queue : Waiting) → Kept (deskOf own (a rest) queue) → P (deskOf own (a rest) queue)
-
--- What Frame again is lent: all but the count and the heads.
-abbrev pub againLent : RefT (List ℕ) → RefT (List ℕ) → RefT (List ℕ) → RefT (List ℕ) → RefT (List ℕ) → RefT (List ℕ) → RefT (List ℕ) → ℕ × List ℕ → Arrays
-againLent ds ns bs ss ts ls bf x = arrays (x .0) (ds .now) (ns .now) (bs .now) (ss .now) (ts .now) (x .1) (ls .now) (bf .now)
 
 -- What Relate and First apart are lent: no count, boxes or heads.
 abbrev pub queryLent : RefT (List ℕ) → RefT (List ℕ) → RefT (List ℕ) → RefT (List ℕ) → RefT (List ℕ) → RefT (List ℕ) → ℕ × List ℕ × List ℕ → Arrays

@@ -1,10 +1,10 @@
 // One desk's causality engine: the seven calls.
 mod apart;
 mod first_apart;
-pub mod frame_again;
-pub mod mark;
+mod frame_again;
+mod mark;
 mod new;
-pub mod receive;
+mod receive;
 mod relate;
 
 use causality::Counted;

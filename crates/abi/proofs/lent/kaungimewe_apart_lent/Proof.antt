@@ -55,7 +55,8 @@ use Rattle.pairs.specs.declared.Listed.{Listed}
 use Rattle.concurrent.proofs.ApartList as F
 use Rattle.concurrent.proofs.ApartList.Laws as F′
 use Rattle.concurrent.specs.declared.ApartList.{ApartList}
-use Rattle.desk.specs.Lent.{SomeDesk, apartLent}
+use Rattle.in_place.specs.Lent.{SomeDesk}
+use Rattle.desk.specs.Lent.{apartLent}
 use Rattle.desk.proofs.Invariant.{kept-lent}
 use Rattle.numbers.proofs.ApartAnswer as R
 use Rattle.numbers.proofs.ApartAnswer.Laws as R′

@@ -1,9 +1,9 @@
 -- `kaungimewe_frame_again_lent` meets its contract: what is written over lent arrays is written for every desk that lends them.
-use mathlib.Core.Path.{subst}
+use mathlib.Core.Path.{refl, subst}
 use borrow.Author.Needs.{needs}
 use Rattle.causality.specs.declared.MarkId.{MarkId}
-use Rattle.desk.specs.Lent.{againLent, deskOf}
-use Rattle.desk.specs.Promises.{FrameAgainPromise}
+use Rattle.verdict.specs.Kept.{stateIn}
+use Rattle.in_place.specs.Lent.{AgainIn, againLent}
 use Rattle.abi.proofs.lent.kaungimewe_frame_again_lent.Statement.{statement}
 use Rattle.abi.proofs.lent.kaungimewe_frame_again_lent.Tie as tie
 
@@ -16,8 +16,9 @@ returns c =
       answer = w .write-again .result;
       numbers = c .written .ensures;
       promise = λ own rest q k.
-          let d = deskOf own (againLent (a .desks) (a .numbers) (a .boxes) (a .stamps) (a .tally) (a .last) (a .before) rest) q in
-          subst (λ (x : MarkId). FrameAgainPromise d x (a .out .now) (w .write-again .last .1 .1 .1 .1 .1 .1 .1 .1 .0) (record { desk = d; answer = w .write-again .result })) (n .named .ensures) (w .write-again .ensures own rest q k);
+          let st = stateIn own (againLent (a .desks) (a .numbers) (a .boxes) (a .stamps) (a .tally) (a .last) (a .before) rest) q in
+          let p = subst (λ (x : MarkId). AgainIn st x (a .out .now) (w .write-again .last .1 .1 .1 .1 .1 .1 .1 .1 .0) (w .write-again .result)) (n .named .ensures) (w .write-again .ensures own rest q k) in
+          record { desk = refl; answer = p .answer; bytes = p .bytes };
     }
 
 pub kaungimewe-frame-again-lent-spec : {M : Type 1} → statement M

@@ -7,7 +7,6 @@ use mathlib.Core.Path.{_∙_, _≡_, ap, refl, subst, sym}
 use native.Mathlib.Omega.{arith}
 use Rattle.frame.specs.declared.MarkBox.{MarkBox}
 use Rattle.rows.specs.declared.Held.{Held}
-use Rattle.desk.specs.declared.Desk.{Desk}
 use Rattle.frame.specs.Answer.{Answer}
 use Rattle.frame.specs.Frame.{entryBytes, ours, overIf, writeBytes, writeSize}
 use Rattle.frame.specs.Mark.{MarkId, desks}
@@ -22,10 +21,11 @@ use Rattle.causality.proofs.Reach.{Sound, local, local-hist, mark-sound}
 use Rattle.causality.proofs.RowLaws.{entriesOfRow}
 use Rattle.causality.proofs.Rows.{rowOf}
 use Rattle.rows.specs.View.{heldMark, rowFn, width}
-use Rattle.executed.specs.Arrays.{Takes}
-use Rattle.desk.specs.StateOf.{Kept, arraysOf, stateOf}
+use Rattle.executed.specs.Arrays.{Arrays, Takes}
+use Rattle.waiting.specs.declared.Waiting.{Waiting}
+use Rattle.verdict.specs.Kept.{KeptIn, stateIn}
 use Rattle.rows.proofs.ByRows.{row-at, row-entries}
-use Rattle.desk.proofs.Invariant.{executed-length, kept-count, kept-fit, kept-own, kept-sound}
+use Rattle.verdict.proofs.Invariant.{executed-length, kept-count, kept-fit, kept-own, kept-sound}
 
 -- A part of an array from its start on is its first elements.
 pub first-part : (bytes : List ℕ) (size : ℕ) → take (size - 0) bytes ≡ take size bytes
@@ -43,51 +43,51 @@ module _ (h : Held) (es : List ℕ) (e : es ≡ entryBytes (entriesOfRow width (
   held-bytes out after f = f ∙ ap (λ (x : List ℕ). writeBytes ours (record { desk = h .desk; number = h .number; extent = h .extent }) x out) e
 
 -- The next mark of a kept desk, by its kept rows.
-module _ (d : Desk) (k : Kept d) where
-  own-count : (t : List ℕ) → ((j : ℕ) → j < width → getD t j 0 ≡ tally (suc j) (ids ((stateOf d) .executed))) → getD t (d .own - 1) 0 ≡ tally (d .own) (ids ((stateOf d) .executed))
-  own-count t f = row-at width t (λ e. tally e (ids ((stateOf d) .executed))) f (d .own) (kept-own d k .0) (kept-own d k .1)
+module _ (own : ℕ) (a : Arrays) (q : Waiting) (k : KeptIn own a q) where
+  own-count : (t : List ℕ) → ((j : ℕ) → j < width → getD t j 0 ≡ tally (suc j) (ids ((stateIn own a q) .executed))) → getD t (own - 1) 0 ≡ tally own (ids ((stateIn own a q) .executed))
+  own-count t f = row-at width t (λ e. tally e (ids ((stateIn own a q) .executed))) f own (kept-own own a q k .0) (kept-own own a q k .1)
 
-  heads-stamp : (row : List ℕ) → ((j : ℕ) → j < width → getD row j 0 ≡ rowOf (heads ((stateOf d) .executed)) (suc j)) → entriesOfRow width (rowFn row) ≡ heads ((stateOf d) .executed)
+  heads-stamp : (row : List ℕ) → ((j : ℕ) → j < width → getD row j 0 ≡ rowOf (heads ((stateIn own a q) .executed)) (suc j)) → entriesOfRow width (rowFn row) ≡ heads ((stateIn own a q) .executed)
   heads-stamp row f = row-entries width (heads l) row (heads-strict (local l) l h) range f
     where
       l : List Mark
-      l = (stateOf d) .executed
+      l = (stateIn own a q) .executed
 
       h : Standing (local l) l
-      h = local-hist l (kept-sound d k)
+      h = local-hist l (kept-sound own a q k)
 
       range : (e : MarkId) → T (has e (heads l)) → (1 ≤ e .desk) × (e .desk ≤ width) × (1 ≤ e .number)
       range e t =
-          let r = all-ids (Range desks) l (all-map (λ m f. f .range) l (kept-fit d k)) e ((heads-has (local l) l e t) .0) in
+          let r = all-ids (Range desks) l (all-map (λ m f. f .range) l (kept-fit own a q k)) e ((heads-has (local l) l e t) .0) in
           (r .low, r .high, r .first)
 
   -- No count is above the number of places.
-  pub tally-small : getD (d .tally) (d .own - 1) 0 ≤ places
+  pub tally-small : getD (a .tally) (own - 1) 0 ≤ places
   tally-small =
-      let e = own-count (d .tally) (k .ordered .rows .tally) in
-      let a = tally-length (d .own) ((stateOf d) .executed) in
-      let n = executed-length d in
-      let c = kept-count d k in
+      let e = own-count (a .tally) (k .ordered .rows .tally) in
+      let t = tally-length own ((stateIn own a q) .executed) in
+      let n = executed-length own a q in
+      let c = kept-count own a q k in
       omega arith
 
   pub next-mark : (b : MarkBox)
-      → heldMark (record { desk = d .own; number = record { 0 = getD (d .tally) (d .own - 1) 0 + 1 }; extent = b; row = d .heads }) ≡ newMark (stateOf d) b
+      → heldMark (record { desk = own; number = record { 0 = getD (a .tally) (own - 1) 0 + 1 }; extent = b; row = a .heads }) ≡ newMark (stateIn own a q) b
   unfolding newMark
   next-mark b =
-      let e : getD (d .tally) (d .own - 1) 0 + 1 ≡ suc (tally (d .own) (ids ((stateOf d) .executed))) = let x = own-count (d .tally) (k .ordered .rows .tally) in omega arith in
-      let s = heads-stamp (d .heads) (k .ordered .rows .heads) in
-      λ i. record { id = record { desk = d .own; number = e i }; extent = b; stamp = s i }
+      let e : getD (a .tally) (own - 1) 0 + 1 ≡ suc (tally own (ids ((stateIn own a q) .executed))) = let x = own-count (a .tally) (k .ordered .rows .tally) in omega arith in
+      let s = heads-stamp (a .heads) (k .ordered .rows .heads) in
+      λ i. record { id = record { desk = own; number = e i }; extent = b; stamp = s i }
 
   -- The next place may take it.
-  pub mark-takes : (b : MarkBox) (h : Held) → heldMark h ≡ newMark (stateOf d) b → d .count < places → Takes h (arraysOf d)
+  pub mark-takes : (b : MarkBox) (h : Held) → heldMark h ≡ newMark (stateIn own a q) b → a .count < places → Takes h a
   unfolding newMark
   mark-takes b h e l =
-      let o : h .desk ≡ d .own = ap (λ (m : Mark). m .id .desk) e in
-      let w = kept-own d k in
+      let o : h .desk ≡ own = ap (λ (m : Mark). m .id .desk) e in
+      let w = kept-own own a q k in
       record {
         ordered = k .ordered;
         room = l;
         low = omega arith;
         high = omega arith;
-        sound = subst (λ (m : Mark). Sound (m ∷ (stateOf d) .executed)) (sym e) (mark-sound (stateOf d) b (kept-sound d k), kept-sound d k);
+        sound = subst (λ (m : Mark). Sound (m ∷ (stateIn own a q) .executed)) (sym e) (mark-sound (stateIn own a q) b (kept-sound own a q k), kept-sound own a q k);
       }

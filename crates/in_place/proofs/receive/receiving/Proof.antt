@@ -1,24 +1,23 @@
 -- `receiving` meets its contract: a refusal of the reader is passed on, else the mark in the frame arrives (Receipt).
 use mathlib.Core.Path.{_≡_, _∙_, ap, refl, subst, sym}
 use mathlib.Core.List.{List}
-use Prim.Native.Nat.{_<_, suc, ℕ}
+use Prim.Native.Nat.{suc, ℕ}
 use native.Mathlib.Omega.{arith}
-use lib.ListN.{getD}
 use borrow.Author.Needs.{needs}
 use Rattle.frame.specs.Answer.{gives}
-use Rattle.frame.specs.Frame.{entriesOf, ours, readEntries, readFields, reading}
+use Rattle.frame.specs.Frame.{entriesOf, ours, readFields, reading}
 use Rattle.frame.specs.Mark.{desks}
 use Rattle.causality.specs.Calls.{markIn}
 use Rattle.causality.proofs.Fit.{Fit, frame-fit}
 use Rattle.causality.proofs.Rows.{rowOf}
-use Rattle.rows.specs.View.{heldMark, width}
+use Rattle.rows.specs.View.{heldMark}
 use Rattle.rows.specs.declared.Held.{Held}
 use Rattle.executed.specs.Arrays.{Arrays, here}
 use Rattle.waiting.specs.Queue.{here as heldHere}
 use Rattle.waiting.specs.declared.Waiting.{Waiting}
-use Rattle.desk.proofs.Receipt.{made-mark, receipt-mark, receipt-refused}
-use Rattle.desk.proofs.receive.receiving.Statement.{statement}
-use Rattle.desk.proofs.receive.receiving.Tie as tie
+use Rattle.in_place.proofs.Receipt.{made-mark, receipt-mark, receipt-refused}
+use Rattle.in_place.proofs.receive.receiving.Statement.{statement}
+use Rattle.in_place.proofs.receive.receiving.Tie as tie
 
 -- What is lent, as it was found.
 abbrev marks : tie.Start → Arrays

@@ -21,15 +21,15 @@ use Rattle.rows.proofs.ByRows.{row-entries}
 use Rattle.executed.specs.Arrays.{Arrays}
 use Rattle.verdict.specs.Kept.{KeptIn, stateIn}
 use Rattle.arrivals.specs.Steps.{Arrived}
-use Rattle.desk.specs.Lent.{Receiving}
+use Rattle.in_place.specs.Lent.{ReceivedIn}
 
 module _ (own : ℕ) (a : Arrays) (q : Waiting) (k : KeptIn own a q) (s : List ℕ) where
-  pub receipt-refused : (c : ℕ) (r : Receipt) → refused c ≡ readFields ours s → reception r ≡ refused c → Receiving own a q a q s r
+  pub receipt-refused : (c : ℕ) (r : Receipt) → refused c ≡ readFields ours s → reception r ≡ refused c → ReceivedIn own a q a q s r
   unfolding receive refuse
   receipt-refused c r e z = record { state = rw (sym e, receive) refl; answer = z ∙ rw (sym e, receive) refl; kept = k }
 
   -- What comes of the mark comes of its frame.
-  pub receipt-mark : (f : Fields) → gives f ≡ readFields ours s → AreBytes s → (h : Held) → heldMark h ≡ markIn desks s → (b : Arrays) (w : Waiting) (r : Receipt) → Arrived own a q b w h r → Receiving own a q b w s r
+  pub receipt-mark : (f : Fields) → gives f ≡ readFields ours s → AreBytes s → (h : Held) → heldMark h ≡ markIn desks s → (b : Arrays) (w : Waiting) (r : Receipt) → Arrived own a q b w h r → ReceivedIn own a q b w s r
   unfolding receive
   receipt-mark f e y h m b w r p = record { state = state; answer = p .reply ∙ ap (λ (x : Received). x .answer) same; kept = record { from = subst (FromCalls desks) (sym state) (received (k .from) s); ordered = p .ordered; queued = p .queued } }
     where
