@@ -64,10 +64,11 @@ judgement st m s = elim (unmade st (m .id) || any (unmade st) (m .stamp)) [ true
 abbrev pub unmadeBy : List ℕ → ℕ → Held → Bool
 unmadeBy t own h = (eqb (h .desk) own && ltb (getD t (own - 1) 0) (h .number .0)) || ltb (getD t (own - 1) 0) (getD (h .row) (own - 1) 0)
 
--- The marks whose standing the false-stamp test asks.
+-- The marks whose standing the false-stamp test asks, and no others.
 pub record Asked (row : List ℕ) (desk number : ℕ) (r : List ℕ) : Type 0 where
   pub named : (j : ℕ) → j < width → 0 < getD row j 0 → getD r j 0 ≡ getD row j 0
   pub previous : getD row (desk - 1) 0 ≡ 0 → 1 < number → getD r (desk - 1) 0 ≡ number - 1
+  pub none : (j : ℕ) → j < width → getD row j 0 ≡ 0 → (j ≡ desk - 1 → number ≤ 1) → getD r j 0 ≡ 0
 
 -- A row with the tally of marks.
 abbrev pub Tallies : List Mark → List ℕ → Type 0

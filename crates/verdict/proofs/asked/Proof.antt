@@ -1,7 +1,7 @@
 -- `asked` meets its contract: only a count that was 0 is set.
-use mathlib.Core.Path.{refl}
+use mathlib.Core.Path.{_∙_, refl}
 use Prim.Native.Nat.{_-_}
-use lib.Seq.{getD-set-same}
+use lib.Seq.{getD-set-other, getD-set-same}
 use Rattle.rows.specs.View.{width}
 use Rattle.verdict.proofs.JudgeLaws.{asked-set}
 use borrow.Author.Needs.{needs}
@@ -12,13 +12,17 @@ use Rattle.verdict.proofs.asked.Tie as tie
 returns : tie.Need-returns
 returns c =
     let a = c .before .before .args in
-    record { named = asked-set width (a .t1) (a .desk - 1) (a .number - 1) (c .before .if1 .taken); previous = λ z o. getD-set-same (a .t1) (a .desk - 1) (a .number - 1) 0 (search needs) }
+    record {
+      named = asked-set width (a .t1) (a .desk - 1) (a .number - 1) (c .before .if1 .taken);
+      previous = λ z o. getD-set-same (a .t1) (a .desk - 1) (a .number - 1) 0 (search needs);
+      none = λ j h z f. getD-set-other (a .t1) (a .desk - 1) j (a .number - 1) 0 (λ e. let n = f e in let o = c .if2 .taken in omega arith) ∙ z;
+    }
 
 returns-2 : tie.Need-returns-2
-returns-2 c = record { named = λ j h o. refl; previous = λ z o. let l = c .if2 .left in let x : ⊥ = omega arith in absurd x }
+returns-2 c = record { named = λ j h o. refl; previous = λ z o. let l = c .if2 .left in let x : ⊥ = omega arith in absurd x; none = λ j h z f. z }
 
 returns-3 : tie.Need-returns-3
-returns-3 c = record { named = λ j h o. refl; previous = λ z o. absurd (c .if1 .left z) }
+returns-3 c = record { named = λ j h o. refl; previous = λ z o. absurd (c .if1 .left z); none = λ j h z f. z }
 
 pub asked-spec : {M : Type 1} → statement M
 asked-spec =
