@@ -41,7 +41,7 @@ pub record MarkExport (own waiting : ℕ) (a b : Arrays) (extent : MarkBox) (out
 
 pub record ReceiveExport (own : ℕ) (a : Arrays) (q : Waiting) (b : Arrays) (w : Waiting) (s : List ℕ) (r : ReceiveAnswer) : Type 0 where
   pub answer : Received
-  pub numbers : receivedNumbers answer ≡ (r .refusal, r .kind, r .executed, r .dropped)
+  pub numbers : receivedNumbers answer ≡ (r .refusal, r .kind, r .executed, r .dropped, r .missing)
   pub promise : Receiving own a q b w s answer
 
 -- QUERIES: of every desk that lends the arrays

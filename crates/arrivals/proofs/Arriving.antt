@@ -49,17 +49,17 @@ module _ (own : ℕ) (a : Arrays) (q : Queue) (k : KeptIn own a q) (h : Held) wh
   pub promise-known : (r : Receipt) → knows ≡ judged (stateIn own a q) h → reception r ≡ gives Known → Arrived own a q a q h r
   promise-known r e z = stays knows (record { state = stateIn own a q; answer = gives Known }) r e refl refl z
 
-  pub holds-room : holds ≡ judged (stateIn own a q) h → q .count < waitingPlaces
-  holds-room e =
-      let j = judged-holds (stateIn own a q) (heldMark h) (frameOfMark desks (heldMark h)) (sym e) in
-      let n : ¬ (length (waitingIn q) ≡ waitingPlaces) = eqb-false _ _ (j .1) in
+  pub holds-room : (n : ℕ) → holds n ≡ judged (stateIn own a q) h → q .count < waitingPlaces
+  holds-room n e =
+      let j = judged-holds (stateIn own a q) (heldMark h) (frameOfMark desks (heldMark h)) n (sym e) in
+      let z : ¬ (length (waitingIn q) ≡ waitingPlaces) = eqb-false _ _ (j .1) in
       let w = waiting-length own a q in
       let f = kept-few own a q k in
       omega arith
 
-  pub promise-holds : (w : Queue) (r : Receipt) → holds ≡ judged (stateIn own a q) h → Pushed h q w → reception r ≡ gives Waiting → Arrived own a q a w h r
-  promise-holds w r e x z =
-      let p = by-judgement (stateIn own a q) h holds e in
+  pub promise-holds : (w : Queue) (r : Receipt) (n : ℕ) → holds n ≡ judged (stateIn own a q) h → Pushed h q w → reception r ≡ gives (Waiting n) → Arrived own a q a w h r
+  promise-holds w r n e x z =
+      let p = by-judgement (stateIn own a q) h (holds n) e in
       let m = x .marks in
       record {
         state = (λ i. record { own = own; executed = stateIn own a q .executed; waiting = m i }) ∙ sym (ap (λ (x : Received). x .state) p);

@@ -11,7 +11,7 @@ use Rattle.frame.specs.Mark.{desks}
 use Rattle.causality.specs.Answers.{Known, Waiting}
 use Rattle.causality.specs.Calls.{Received, arrive, executing, frameOfMark, full, receiveMark, refuse, sameBytes, unmade}
 use Rattle.causality.specs.Marks.{any, find, waitingPlaces}
-use Rattle.causality.specs.State.{Mark, State, falseStamp, markId, ready}
+use Rattle.causality.specs.State.{Mark, State, falseStamp, markId, missing, ready}
 use Rattle.causality.proofs.Cases.{Arrives}
 use Rattle.verdict.specs.Judgement.{Judgement, admission, holds, judgement, knownIf, knows, meeting, refuses, runs}
 
@@ -20,7 +20,7 @@ use Rattle.verdict.specs.Judgement.{Judgement, admission, holds, judgement, kno
 abbrev pub act : Judgement → State → Mark → Received
 act (refuses c) st m = refuse st c
 act knows st m = record { state = st; answer = gives Known }
-act holds st m = record { state = record { own = st .own; executed = st .executed; waiting = m ∷ st .waiting }; answer = gives Waiting }
+act (holds n) st m = record { state = record { own = st .own; executed = st .executed; waiting = m ∷ st .waiting }; answer = gives (Waiting n) }
 act runs st m = executing st m
 
 admission-act : (st : State) (m : Mark) → arrive st m ≡ act (admission st m) st m
@@ -54,7 +54,7 @@ receive-act st m s = go (unmade st (m .id) || any (unmade st) (m .stamp)) refl (
 data JudgeCase (st : State) (m : Mark) : Judgement → Type 0 where
   to-refuse : (c : ℕ) → JudgeCase st m (refuses c)
   to-know : JudgeCase st m knows
-  to-hold : Arrives st m → ready (st .executed) m ≡ false → eqb (length (st .waiting)) waitingPlaces ≡ false → JudgeCase st m holds
+  to-hold : Arrives st m → ready (st .executed) m ≡ false → eqb (length (st .waiting)) waitingPlaces ≡ false → JudgeCase st m (holds (missing (st .executed) m))
   to-run : Arrives st m → ready (st .executed) m ≡ true → falseStamp (st .executed) m ≡ false → JudgeCase st m runs
 
 judge-case : (st : State) (m : Mark) (s : List ℕ) → JudgeCase st m (judgement st m s)
@@ -80,11 +80,11 @@ judge-case st m s = go (unmade st (m .id) || any (unmade st) (m .stamp)) refl (f
     go false e none q = rw (e, judgement) (rw (q, meeting) (admitted (λ r. record { made = e; absent = q; room = r })))
     go false e (some h) q = rw (e, judgement) (rw (q, meeting) (known-case (sameBytes (frameOfMark desks h) s)))
 
-pub judged-holds : (st : State) (m : Mark) (s : List ℕ) → judgement st m s ≡ holds → Arrives st m × (eqb (length (st .waiting)) waitingPlaces ≡ false)
-judged-holds st m s e = go (subst (JudgeCase st m) e (judge-case st m s))
+pub judged-holds : (st : State) (m : Mark) (s : List ℕ) (n : ℕ) → judgement st m s ≡ holds n → Arrives st m × (eqb (length (st .waiting)) waitingPlaces ≡ false)
+judged-holds st m s n e = go n (subst (JudgeCase st m) e (judge-case st m s))
   where
-    go : JudgeCase st m holds → Arrives st m × (eqb (length (st .waiting)) waitingPlaces ≡ false)
-    go (to-hold a b c) = (a, c)
+    go : (n : ℕ) → JudgeCase st m (holds n) → Arrives st m × (eqb (length (st .waiting)) waitingPlaces ≡ false)
+    go n (to-hold a b c) = (a, c)
 
 pub judged-runs : (st : State) (m : Mark) (s : List ℕ) → judgement st m s ≡ runs → Arrives st m × (ready (st .executed) m ≡ true) × (falseStamp (st .executed) m ≡ false)
 judged-runs st m s e = go (subst (JudgeCase st m) e (judge-case st m s))

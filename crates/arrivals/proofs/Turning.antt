@@ -18,9 +18,9 @@ use Rattle.rows.specs.declared.Held.{Held}
 use Rattle.rows.proofs.Arrays.{view-length}
 use Rattle.rows.proofs.ByRows.{row-at}
 use Rattle.executed.specs.Arrays.{Arrays, Takes, Took, executedIn}
-use Rattle.waiting.specs.Queue.{LowestAt, Numbered, Queued, Removed, TallyOf, waitingIn}
+use Rattle.waiting.specs.Queue.{LowestAt, Queued, Removed, TallyOf, waitingIn}
 use Rattle.waiting.specs.declared.Waiting.{Waiting}
-use Rattle.waiting.proofs.UseLaws.{fit-named, fit-numbered, slot-found, slot-missed}
+use Rattle.waiting.proofs.UseLaws.{fit-named, slot-found, slot-missed}
 use Rattle.arrivals.specs.declared.Released.{Released}
 use Rattle.arrivals.specs.Steps.{Between, IsNext, Midway, ReleasePromise, Turned, Turns, droppedBy, executedBy}
 use Rattle.arrivals.proofs.Releasing.{between-dropped, between-executed, next-fit, next-ready, next-sound, rests, turn-dropped, turn-executed}
@@ -42,9 +42,6 @@ module _ (a : Arrays) (q : Waiting) (m : Midway a q) where
 
   pub held-named : Named width (q .count) (q .desks)
   held-named = fit-named width (q .count) (q .desks) (q .numbers) (boxAt (q .boxes)) (q .stamps) (m .between .waiting)
-
-  pub held-numbered : Numbered (q .count) (q .numbers)
-  held-numbered = fit-numbered width (q .count) (q .desks) (q .numbers) (boxAt (q .boxes)) (q .stamps) (m .between .waiting)
 
   -- The slot that the readiness test chose.
   pub is-next : (i : ℕ) → LowestAt (a .tally) (q .count) (q .desks) (q .numbers) (q .stamps) i → IsNext a q i

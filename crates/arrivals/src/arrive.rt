@@ -60,9 +60,9 @@ pub fn arrive(
     ) {
         Verdict::Refused(refusal) => Received::Refused(refusal),
         Verdict::Known => Received::Known,
-        Verdict::Waits => {
+        Verdict::Waits(short) => {
             waiting::push(waiting, wdesks, wnumbers, wboxes, wstamps, h);
-            Received::Waiting
+            Received::Waiting(short)
         }
         Verdict::Runs => {
             executed::execute(

@@ -1,5 +1,5 @@
 -- The ways that Mark and Receive can go, each with the conditions that led there. Assumes nothing.
-use Prim.Native.Nat.{ℕ}
+use Prim.Native.Nat.{_<_, ℕ}
 use borrow.Author.Tests.{not-false}
 use lib.Dec.{eqb}
 use lib.ListN.{length}
@@ -11,10 +11,11 @@ use Rattle.frame.specs.declared.MarkBox.{MarkBox}
 use Rattle.frame.specs.Answer.{Answer, gives, refused}
 use Rattle.frame.specs.Mark.{boxRule}
 use Rattle.frame.proofs.Tests.{passes}
-use Rattle.causality.specs.Answers.{Executed, Known, Numbered, Reception, Waiting}
+use Rattle.causality.specs.Answers.{Executed, Known, Numbered, Reply, Waiting}
 use Rattle.causality.specs.Calls.{Received, arrive, executing, frameOfMark, full, markAnswer, newMark, numbered, receiveMark, refuse, sameBytes, sizeOfMark, unmade}
 use Rattle.causality.specs.Marks.{any, find, waitingPlaces}
 use Rattle.causality.specs.State.{Mark, State, falseStamp, markId, ready}
+use Rattle.causality.proofs.Missing.{short-some}
 
 -- What Mark has passed where it answers.
 pub record MarkGives (N : ℕ) (st : State) (b : MarkBox) (lent : ℕ) (n : Numbered) : Type 0 where
@@ -36,16 +37,21 @@ pub record Arrives (st : State) (m : Mark) : Type 0 where
   pub room : full st ≡ false
 
 -- How many marks an answer of Receive says were executed.
-abbrev pub executedBy : Answer Reception → ℕ
+abbrev pub executedBy : Answer Reply → ℕ
 executedBy (gives Known) = 0
-executedBy (gives Waiting) = 0
+executedBy (gives (Waiting n)) = 0
 executedBy (gives (Executed k f)) = k
 executedBy (refused c) = 0
 
+-- The answers with which the desk stays as it is.
+pub data Still : Answer Reply → Type 0 where
+  known : Still (gives Known)
+  refusal : (c : ℕ) → Still (refused c)
+
 pub data ReceiveCase (st : State) (m : Mark) : Received → Type 0 where
-  stays : (a : Answer Reception) → executedBy a ≡ 0 → ReceiveCase st m (record { state = st; answer = a })
-  waits : Arrives st m → ready (st .executed) m ≡ false → eqb (length (st .waiting)) waitingPlaces ≡ false
-      → ReceiveCase st m (record { state = record { own = st .own; executed = st .executed; waiting = m ∷ st .waiting }; answer = gives Waiting })
+  stays : (a : Answer Reply) → Still a → ReceiveCase st m (record { state = st; answer = a })
+  waits : Arrives st m → ready (st .executed) m ≡ false → eqb (length (st .waiting)) waitingPlaces ≡ false → (short : ℕ) → 0 < short
+      → ReceiveCase st m (record { state = record { own = st .own; executed = st .executed; waiting = m ∷ st .waiting }; answer = gives (Waiting short) })
   executes : Arrives st m → ready (st .executed) m ≡ true → falseStamp (st .executed) m ≡ false → ReceiveCase st m (executing st m)
 
 arrive-case : (st : State) (m : Mark) → (full st ≡ false → Arrives st m) → ReceiveCase st m (arrive st m)
@@ -53,10 +59,10 @@ unfolding arrive refuse
 arrive-case st m here = go (full st) (ready (st .executed) m) (eqb (length (st .waiting)) waitingPlaces) (falseStamp (st .executed) m) refl refl refl refl
   where
     go : (a b c g : Bool) → full st ≡ a → ready (st .executed) m ≡ b → eqb (length (st .waiting)) waitingPlaces ≡ c → falseStamp (st .executed) m ≡ g → ReceiveCase st m (arrive st m)
-    go true b c g ea eb ec eg = rw (ea, arrive) (stays (refused 9) refl)
-    go false false true g ea eb ec eg = rw (ea, arrive) (rw eb (rw ec (stays (refused 10) refl)))
-    go false false false g ea eb ec eg = rw (ea, arrive) (rw eb (rw ec (waits (here ea) eb ec)))
-    go false true c true ea eb ec eg = rw (ea, arrive) (rw eb (rw eg (stays (refused 11) refl)))
+    go true b c g ea eb ec eg = rw (ea, arrive) (stays (refused 9) (refusal 9))
+    go false false true g ea eb ec eg = rw (ea, arrive) (rw eb (rw ec (stays (refused 10) (refusal 10))))
+    go false false false g ea eb ec eg = rw (ea, arrive) (rw eb (rw ec (waits (here ea) eb ec _ (short-some (st .executed) m eb))))
+    go false true c true ea eb ec eg = rw (ea, arrive) (rw eb (rw eg (stays (refused 11) (refusal 11))))
     go false true c false ea eb ec eg = rw (ea, arrive) (rw eb (rw eg (executes (here ea) eb eg)))
 
 pub receive-case : (N : ℕ) (st : State) (m : Mark) (s : List ℕ) → ReceiveCase st m (receiveMark N st m s)
@@ -65,11 +71,11 @@ receive-case N st m s = go (unmade st (m .id) || any (unmade st) (m .stamp)) ref
   where
     knows : (h : Mark) (b : Bool) → sameBytes (frameOfMark N h) s ≡ b
         → ReceiveCase st m (elim (sameBytes (frameOfMark N h) s) [ true ↦ record { state = st; answer = gives Known } | false ↦ refuse st 8 ])
-    knows h true e = rw e (stays (gives Known) refl)
-    knows h false e = rw e (stays (refused 8) refl)
+    knows h true e = rw e (stays (gives Known) known)
+    knows h false e = rw e (stays (refused 8) (refusal 8))
 
     go : (b : Bool) → (unmade st (m .id) || any (unmade st) (m .stamp)) ≡ b → (o : Option Mark) → find markId (m .id) (st .executed ++ st .waiting) ≡ o
         → ReceiveCase st m (receiveMark N st m s)
-    go true e o q = rw (e, receiveMark) (stays (refused 7) refl)
+    go true e o q = rw (e, receiveMark) (stays (refused 7) (refusal 7))
     go false e none q = rw (e, receiveMark) (rw q (arrive-case st m (λ r. record { made = e; absent = q; room = r })))
     go false e (some h) q = rw (e, receiveMark) (rw q (knows h (sameBytes (frameOfMark N h) s) refl))

@@ -8,11 +8,11 @@ use Rattle.frame.specs.declared.MarkBox.{MarkBox}
 use Rattle.frame.specs.Answer.{Answer, gives, refused}
 use Rattle.frame.specs.Frame.{at2, at4, bytes2, bytes4, countBad, edition, entriesBad, entriesOf, entryBad, fieldsBad, fieldsOf, frameOf, headOf, lengthBad, outputShort, partBad, readEntries, readFields, versionBad, writeSize}
 use Rattle.frame.specs.Mark.{MarkId, boxRule, desks, isDesk, isNumber}
-use Rattle.causality.specs.Answers.{After, Before, Concurrent, Executed, Known, Reception, Relation, Same, Waiting}
+use Rattle.causality.specs.Answers.{After, Before, Concurrent, Executed, Known, Relation, Reply, Same, Waiting}
 use Rattle.causality.specs.Calls.{apartOf, arrive, executing, fieldsOfMark, firstApart, frameOfMark, full, mark, markAnswer, markIn, new, newMark, receive, receiveMark, refuse, relate, sameBytes, sizeOfMark, unmade}
-use Rattle.causality.specs.Examples.{pinned, starred}
+use Rattle.causality.specs.Examples.{pinned, short, starred}
 use Rattle.causality.specs.Marks.{same}
-use Rattle.causality.specs.State.{State, concurrent, falseStamp, heads, ids, isHead, previous, ready}
+use Rattle.causality.specs.State.{State, concurrent, falseStamp, heads, ids, isHead, lacksPrevious, missing, missingEntries, previous, ready}
 
 abbrev box : MarkBox
 box = record { start = 1_000; end = 1_500; low = 100; high = 400 }
@@ -77,9 +77,9 @@ abbrev names : List MarkId → List ℕ
 names [] = []
 names (i ∷ is) = i .desk ∷ i .number ∷ names is
 
-abbrev reception : Answer Reception → List ℕ
+abbrev reception : Answer Reply → List ℕ
 reception (gives Known) = 999 ∷ []
-reception (gives Waiting) = 0 ∷ []
+reception (gives (Waiting n)) = 0 ∷ n ∷ []
 reception (gives (Executed k f)) = 1 ∷ k ∷ f ∷ []
 reception (refused c) = c ∷ []
 
@@ -137,6 +137,22 @@ foundPinned =
     ∷ (let st = receives (fresh 2) (f1 2 ∷ []) in answered st (f1 2) ++ answered st (forged 2))
     ∷ []
 
+-- An entry (d, 1) for each of these desks.
+abbrev firsts : List ℕ → List MarkId
+firsts [] = []
+firsts (d ∷ ds) = id d 1 ∷ firsts ds
+
+abbrev foundShort : List (List ℕ)
+foundShort =
+    answered (fresh 4) f12
+    ∷ answered (fresh 4) f22
+    ∷ answered (receives (fresh 4) (f12 ∷ [])) f22
+    ∷ answered (fresh 2) (frame 1 5 (id 1 2 ∷ []))
+    ∷ answered (fresh 2) (frame 1 5 (id 1 4 ∷ []))
+    ∷ answered (fresh 4) (after11 2)
+    ∷ answered (fresh 5) (frame 1 9 (firsts (1 ∷ 2 ∷ 3 ∷ 4 ∷ 6 ∷ 7 ∷ 8 ∷ 9 ∷ 10 ∷ 11 ∷ 12 ∷ 13 ∷ 14 ∷ 15 ∷ 16 ∷ [])))
+    ∷ []
+
 abbrev equal : List (List ℕ) → List (List ℕ) → Bool
 equal [] [] = true
 equal [] (y ∷ ys) = false
@@ -144,9 +160,13 @@ equal (x ∷ xs) [] = false
 equal (x ∷ xs) (y ∷ ys) = sameBytes x y && equal xs ys
 
 pub examples : T (equal found starred)
-unfolding isDesk isNumber boxRule at2 at4 bytes2 bytes4 fieldsOf headOf frameOf lengthBad versionBad countBad partBad fieldsBad entryBad entriesBad outputShort readFields readEntries writeSize same isHead heads previous ready falseStamp concurrent new fieldsOfMark frameOfMark sizeOfMark markIn full newMark markAnswer mark refuse executing arrive unmade receiveMark receive relate apartOf firstApart
+unfolding isDesk isNumber boxRule at2 at4 bytes2 bytes4 fieldsOf headOf frameOf lengthBad versionBad countBad partBad fieldsBad entryBad entriesBad outputShort readFields readEntries writeSize same isHead heads previous ready missingEntries lacksPrevious missing falseStamp concurrent new fieldsOfMark frameOfMark sizeOfMark markIn full newMark markAnswer mark refuse executing arrive unmade receiveMark receive relate apartOf firstApart
 examples = tt
 
 pub pins : T (equal foundPinned pinned)
-unfolding isDesk isNumber boxRule at2 at4 bytes2 bytes4 fieldsOf headOf frameOf lengthBad versionBad countBad partBad fieldsBad entryBad entriesBad outputShort readFields readEntries writeSize same isHead heads previous ready falseStamp concurrent new fieldsOfMark frameOfMark sizeOfMark markIn full newMark markAnswer mark refuse executing arrive unmade receiveMark receive relate apartOf firstApart
+unfolding isDesk isNumber boxRule at2 at4 bytes2 bytes4 fieldsOf headOf frameOf lengthBad versionBad countBad partBad fieldsBad entryBad entriesBad outputShort readFields readEntries writeSize same isHead heads previous ready missingEntries lacksPrevious missing falseStamp concurrent new fieldsOfMark frameOfMark sizeOfMark markIn full newMark markAnswer mark refuse executing arrive unmade receiveMark receive relate apartOf firstApart
 pins = tt
+
+pub shorts : T (equal foundShort short)
+unfolding isDesk isNumber boxRule at2 at4 bytes2 bytes4 fieldsOf headOf frameOf lengthBad versionBad countBad partBad fieldsBad entryBad entriesBad outputShort readFields readEntries writeSize same isHead heads previous ready missingEntries lacksPrevious missing falseStamp concurrent new fieldsOfMark frameOfMark sizeOfMark markIn full newMark markAnswer mark refuse executing arrive unmade receiveMark receive relate apartOf firstApart
+shorts = tt

@@ -1,5 +1,5 @@
--- "k counts all executed by the call": it is the growth in places, whatever bytes are received. Assumes nothing.
-use Prim.Native.Nat.{_+_, suc, zero, ℕ}
+-- The numbers in Receive's answers, whatever bytes are received: k is the growth in places, and the number that Waiting carries is never 0. Assumes nothing.
+use Prim.Native.Nat.{_+_, _<_, suc, zero, ℕ}
 use lib.ListN.{length}
 use mathlib.Core.Bool.{Bool, false, true}
 use mathlib.Core.List.{List, _∷_}
@@ -9,10 +9,11 @@ use native.Mathlib.Omega.{arith}
 use Rattle.frame.specs.declared.Fields.{Fields}
 use Rattle.frame.specs.Answer.{Answer, gives, refused}
 use Rattle.frame.specs.Frame.{edition, readFields}
+use Rattle.causality.specs.Answers.{Waiting}
 use Rattle.causality.specs.Calls.{Received, executing, ifRead, markIn, receive, receiveMark, refuse, release}
 use Rattle.causality.specs.Marks.{lowest, without}
 use Rattle.causality.specs.State.{Mark, State, falseStamp, markId, ready}
-use Rattle.causality.proofs.Cases.{ReceiveCase, executedBy, executes, receive-case, stays, waits}
+use Rattle.causality.proofs.Cases.{ReceiveCase, executedBy, executes, known, receive-case, refusal, stays, waits}
 
 release-growth : (turns : ℕ) (l ws : List Mark) (k f : ℕ) → (release turns l ws k f) .k + length l ≡ k + length ((release turns l ws k f) .executed)
 release-growth zero l ws k f = refl
@@ -30,8 +31,9 @@ release-growth (suc turns) l ws k f = go (lowest markId (ready l) ws) refl (rele
 
 case-growth : (st : State) (m : Mark) (r : Received) → ReceiveCase st m r → length (r .state .executed) ≡ executedBy (r .answer) + length (st .executed)
 unfolding executing
-case-growth st m r (stays a z) = omega arith
-case-growth st m r (waits a b c) = omega arith
+case-growth st m r (stays a known) = omega arith
+case-growth st m r (stays a (refusal c)) = omega arith
+case-growth st m r (waits a b c n p) = omega arith
 case-growth st m r (executes a b c) = let g = release-growth (length (st .waiting)) (m ∷ st .executed) (st .waiting) 1 0 in omega arith
 
 pub receive-growth : (N : ℕ) (st : State) (s : List ℕ)
@@ -45,3 +47,22 @@ receive-growth N st s = go (readFields (edition N) s)
     go : (a : Answer Fields) → length ((ifRead a st r) .state .executed) ≡ executedBy ((ifRead a st r) .answer) + length (st .executed)
     go (gives f) = case-growth st (markIn N s) r (receive-case N st (markIn N s) s)
     go (refused c) = omega arith
+
+-- Order 1: "Waiting carries that number, which is never 0".
+case-short : (st : State) (m : Mark) (r : Received) (n : ℕ) → ReceiveCase st m r → r .answer ≡ gives (Waiting n) → 0 < n
+unfolding executing
+case-short st m r n (stays a known) e = let z : _≡_ {A = ℕ} 0 1 = cc in omega arith
+case-short st m r n (stays a (refusal c)) e = let z : _≡_ {A = ℕ} 0 1 = cc in omega arith
+case-short st m r n (waits a b c k p) e = let z : k ≡ n = cc in omega arith
+case-short st m r n (executes a b c) e = let z : _≡_ {A = ℕ} 0 1 = cc in omega arith
+
+pub waiting-short : (N : ℕ) (st : State) (s : List ℕ) (n : ℕ) → (receive N st s) .answer ≡ gives (Waiting n) → 0 < n
+unfolding receive refuse
+waiting-short N st s n = go (readFields (edition N) s)
+  where
+    r : Received
+    r = receiveMark N st (markIn N s) s
+
+    go : (a : Answer Fields) → (ifRead a st r) .answer ≡ gives (Waiting n) → 0 < n
+    go (gives f) e = case-short st (markIn N s) r n (receive-case N st (markIn N s) s) e
+    go (refused c) e = let z : _≡_ {A = ℕ} 0 1 = cc in omega arith

@@ -112,7 +112,7 @@ module _ (N : ℕ) (some-desk : 1 ≤ N) where
     where
       go : {x : Received} → ReceiveCase st m x → ReachState (x .state) → StillState (x .state) → Kept (x .state)
       go (stays a z) r q = k
-      go (waits a b c) r q = record { low = k .low; high = k .high; reach = r; still = q; executed = k .executed; waiting = (f, k .waiting) }
+      go (waits a b c n p) r q = record { low = k .low; high = k .high; reach = r; still = q; executed = k .executed; waiting = (f, k .waiting) }
       go (executes a b c) r q =
           let x = release-all (Fit N) (length (st .waiting)) (m ∷ st .executed) (st .waiting) 1 0 (f, k .executed) (k .waiting) in
           record { low = k .low; high = k .high; reach = r; still = q; executed = x .0; waiting = x .1 }

@@ -5,6 +5,7 @@ pub mod Lists
 pub mod Shared
 pub mod Past
 pub mod Numbers
+pub mod Missing
 pub mod Cases
 pub mod Refusals
 pub mod Growth

@@ -274,5 +274,5 @@ receive-reach N d m s p pe r = go (receive-case N d m s)
 
     go : {r : Received} → ReceiveCase d m r → ReachState (r .state)
     go (stays a z) = r
-    go (waits a b c) = record { sound = r .sound; wait = (wait a, r .wait) }
+    go (waits a b c n p) = record { sound = r .sound; wait = (wait a, r .wait) }
     go (executes a b c) = release-reach (d .own) (length (d .waiting)) (m ∷ d .executed) (d .waiting) 1 0 (execute-reach d m p r a b c)

@@ -20,7 +20,7 @@ gives-refused a c e = let z : _≡_ {A = ℕ} 0 1 = cc in omega arith
 case-refused : (st : State) (m : Mark) (r : Received) (c : ℕ) → ReceiveCase st m r → r .answer ≡ refused c → r .state ≡ st
 unfolding executing
 case-refused st m r c (stays a z) e = refl
-case-refused st m r c (waits w b f) e = absurd (gives-refused _ c e)
+case-refused st m r c (waits w b f n p) e = absurd (gives-refused _ c e)
 case-refused st m r c (executes w b f) e = absurd (gives-refused _ c e)
 
 pub receive-refused : (N : ℕ) (st : State) (s : List ℕ) (c : ℕ) → receive N st s .answer ≡ refused c → receive N st s .state ≡ st

@@ -78,7 +78,7 @@ receive-still N d m s r = go (receive-case N d m s)
 
     go : {x : Received} → ReceiveCase d m x → StillState (x .state)
     go (stays a z) = r
-    go (waits a b c) =
+    go (waits a b c n p) =
         let n1 : ¬ (length (d .executed) + length (d .waiting) ≡ places) = neq (length (d .executed) + length (d .waiting)) places (a .room) in
         let n2 : ¬ (length (d .waiting) ≡ waitingPlaces) = neq (length (d .waiting)) waitingPlaces c in
         let p = r .room .total in let q = r .room .few in

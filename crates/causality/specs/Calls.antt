@@ -10,9 +10,9 @@ use Rattle.frame.specs.Mark.{MarkId, isDesk, boxRule}
 use Rattle.frame.specs.Frame.{edition, entriesOf, entryBytes, fieldsOf, frameOf, readFields, readEntries, writeSize, overIf}
 use Rattle.frame.specs.declared.Fields.{Fields}
 use Rattle.frame.specs.declared.MarkBox.{MarkBox}
-use Rattle.causality.specs.Answers.{Numbered, Reception, Known, Waiting, Executed, Relation, Same, Before, After, Concurrent}
+use Rattle.causality.specs.Answers.{Numbered, Reply, Known, Waiting, Executed, Relation, Same, Before, After, Concurrent}
 use Rattle.causality.specs.Marks.{places, waitingPlaces, same, any, keep, has, tally, find, without, lowest}
-use Rattle.causality.specs.State.{Mark, markId, State, ids, precedes, concurrent, heads, ready, falseStamp}
+use Rattle.causality.specs.State.{Mark, markId, State, ids, precedes, concurrent, heads, ready, missing, falseStamp}
 
 -- NEW
 
@@ -96,7 +96,7 @@ mark N st b out = record {
 
 pub record Received : Type 0 where
   pub state : State
-  pub answer : Answer Reception
+  pub answer : Answer Reply
 
 unfoldable pub refuse : State → ℕ → Received
 refuse st c = record { state = st; answer = refused c }
@@ -127,7 +127,7 @@ executing st m =
     let r = release (length (st .waiting)) (m ∷ st .executed) (st .waiting) 1 0 in
     record { state = record { own = st .own; executed = r .executed; waiting = r .waiting }; answer = gives (Executed (r .k) (r .f)) }
 
--- A mark that is neither executed nor waiting here: 9; "not ready, 64 waiting": 10; "ready, false stamp": 11.
+-- A mark that is neither executed nor waiting here: 9; "not ready, 64 waiting": 10; "ready, false stamp": 11. Order 1: "Waiting carries that number".
 unfoldable pub arrive : State → Mark → Received
 arrive st m =
     elim (full st) [
@@ -135,7 +135,10 @@ arrive st m =
       | false ↦ elim (ready (st .executed) m) [
         | false ↦ elim (eqb (length (st .waiting)) waitingPlaces) [
           | true ↦ refuse st 10
-          | false ↦ record { state = record { own = st .own; executed = st .executed; waiting = m ∷ st .waiting }; answer = gives Waiting }
+          | false ↦ record {
+            state = record { own = st .own; executed = st .executed; waiting = m ∷ st .waiting };
+            answer = gives (Waiting (missing (st .executed) m));
+          }
         ]
         | true ↦ elim (falseStamp (st .executed) m) [ true ↦ refuse st 11 | false ↦ executing st m ]
       ]

@@ -1,8 +1,9 @@
 -- One desk as document 01 says it, on lists: its marks, precedence, heads, ready marks and false stamps.
-use mathlib.Core.Bool.{Bool, true, false, not, _&&_, _||_}
+use mathlib.Core.Bool.{Bool, true, false, not, _&&_, _||_, cond}
 use mathlib.Core.List.{List, [], _∷_}
-use Prim.Native.Nat.{ℕ, _-_}
+use Prim.Native.Nat.{ℕ, _+_, _-_}
 use lib.Dec.{T, leb, ltb}
+use lib.ListN.{length}
 use Rattle.frame.specs.Mark.{MarkId}
 use Rattle.frame.specs.declared.MarkBox.{MarkBox}
 use Rattle.causality.specs.Marks.{same, any, all, keep, has, rising}
@@ -53,6 +54,18 @@ previous i = record { desk = i .desk; number = i .number - 1 }
 unfoldable pub ready : List Mark → Mark → Bool
 ready executed m =
     all (λ e. has e (ids executed)) (m .stamp) && (leb (m .id .number) 1 || has (previous (m .id)) (ids executed))
+
+-- Order 1: "entries not executed"; the "own desk's previous mark is neither executed nor an entry", where number > 1; "the number of missing marks". A
+-- waiting mark is not executed, and only direct predecessors count.
+unfoldable pub missingEntries : List Mark → Mark → List MarkId
+missingEntries executed m = keep (λ e. not (has e (ids executed))) (m .stamp)
+
+unfoldable pub lacksPrevious : List Mark → Mark → Bool
+lacksPrevious executed m =
+    ltb 1 (m .id .number) && (not (has (previous (m .id)) (ids executed)) && not (has (previous (m .id)) (m .stamp)))
+
+unfoldable pub missing : List Mark → Mark → ℕ
+missing executed m = length (missingEntries executed m) + cond (lacksPrevious executed m) 1 0
 
 -- "A ready mark has a false stamp if one entry precedes another, or if number > 1 and its desk's previous mark neither is an entry nor precedes one."
 unfoldable pub falseStamp : List Mark → Mark → Bool

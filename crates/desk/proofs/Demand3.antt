@@ -16,7 +16,7 @@ use Rattle.desk.specs.Promises.{NewPromise}
 use Rattle.desk.specs.StateOf.{stateOf}
 use Rattle.history.specs.Demand3.{Agree}
 use Rattle.history.specs.Plain.{look, ofMark, ofReceive, plain}
-use Rattle.history.specs.Run.{Run, Step, deskOf, fed, handing, marking, run, runStep, written}
+use Rattle.history.specs.Run.{Run, Step, deskOf, fed, handing, marking, run, runStep, withoutMissing, written}
 use Rattle.history.proofs.MarkRun.{fresh}
 use Rattle.history.proofs.Theorem.{consequences, demand3}
 
@@ -49,7 +49,7 @@ module _ (fresh : ℕ → CreatedDesk) (news : (d : ℕ) → NewPromise d (fresh
           let sa = state-at (c .given) d in
           let state = p .state ∙ ap (λ (x : State). (receive desks x (f .bytes)) .state) sa in
           let answer = p .answer ∙ ap (λ (x : State). (receive desks x (f .bytes)) .answer) sa in
-          rw (e, runStep) (λ k. record { states = (d, state k) ∷ map (λ x. (x .0, stateOf (x .1))) (c .given); frames = c .frames; answers = ofReceive (answer k) ∷ c .answers })
+          rw (e, runStep) (λ k. record { states = (d, state k) ∷ map (λ x. (x .0, stateOf (x .1))) (c .given); frames = c .frames; answers = ofReceive (withoutMissing (answer k)) ∷ c .answers })
   same-run (misses {s = s} {c = c} rs d i e) = one ∙ ap (λ (x : Run). runStep desks x (handing d i)) (same-run rs)
     where
       one : statesOf (afterMiss c) ≡ runStep desks (statesOf c) (handing d i)

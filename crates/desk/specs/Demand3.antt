@@ -11,7 +11,7 @@ use Rattle.causality.specs.declared.MarkId.{MarkId as CodeId}
 use Rattle.causality.specs.Marks.{All, find}
 use Rattle.causality.specs.Meaning.{idOf, numbering, reception, relating}
 use Rattle.history.specs.Plain.{StepAnswer, ofMark, ofReceive, Unmade, look, plain, listsAt, relation}
-use Rattle.history.specs.Run.{Step, marking, handing, deskOf, fed, Written, writtenId, written, Run}
+use Rattle.history.specs.Run.{Step, marking, handing, deskOf, fed, Written, writtenId, written, Run, withoutMissing}
 use Rattle.history.specs.Demand3.{Agree, Consequent}
 use Rattle.desk.specs.declared.Desk.{Desk}
 use Rattle.desk.specs.declared.CreatedDesk.{CreatedDesk}
@@ -36,7 +36,11 @@ afterMark c d r bytes = record {
 }
 
 abbrev pub afterReceive : CallRun → ℕ → ReceivedDesk → CallRun
-afterReceive c d r = record { given = (d, r .desk) ∷ c .given; frames = c .frames; answers = ofReceive (reception (r .answer)) ∷ c .answers }
+afterReceive c d r = record {
+  given = (d, r .desk) ∷ c .given;
+  frames = c .frames;
+  answers = ofReceive (withoutMissing (reception (r .answer))) ∷ c .answers;
+}
 
 abbrev pub afterMiss : CallRun → CallRun
 afterMiss c = record { given = c .given; frames = c .frames; answers = Unmade ∷ c .answers }

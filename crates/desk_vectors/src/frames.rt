@@ -60,15 +60,15 @@ pub fn no_extent() -> MarkBox {
     }
 }
 
-// Mark 1.2 with an empty stamp, in 23 bytes.
-pub fn false_stamp(out: &mut [u8]) {
+// A mark with these entries.
+pub fn stamped(desk: u8, number: u16, entries: &[u8], out: &mut [u8]) {
     frame::writer::write(
         Fields {
-            desk: 1,
-            number: Number(2),
+            desk: desk,
+            number: Number(number),
             extent: extent(),
         },
-        b"",
+        entries,
         out,
     );
 }

@@ -1,7 +1,8 @@
-// Runs document 01's cases of the seven calls, a line each; Apart by its list, with no reference. The file stdout has what the document says.
+// Runs document 01's cases of the seven calls and document 02's, a line each; Apart by its list, with no reference. The file stdout has what the documents say.
 mod calls;
 mod frames;
 mod limits;
+mod missing;
 mod refusals;
 mod scenario;
 mod show;
@@ -14,6 +15,7 @@ fn main() {
     refusals::lent();
     refusals::false_stamps();
     refusals::receive();
+    missing::run();
     limits::waiting();
     limits::full();
     sixteen::run();

@@ -37,7 +37,7 @@ fn stamps(frames: &mut [u8]) {
     calls::mark_in(b, 1, 2, frames, 1);
     let start = frames::start_of(2);
     if start <= frames.len() {
-        frames::false_stamp(&mut frames[start..]);
+        frames::stamped(1, 2, b"", &mut frames[start..]);
     }
 }
 

@@ -56,6 +56,17 @@ fn second_again(desk: Desk, frames: &mut [u8])
     calls::mark_in(h, 2, 2, frames, 22);
 }
 
+// A fresh desk 4 gets the later marks first: each waits, short of so many.
+fn late(frames: &[u8]) {
+    let d = calls::new(4);
+    let e = calls::hand_over(4, d, frames, 12);
+    let f = calls::hand_over(4, e, frames, 22);
+    let g = calls::hand_over(4, f, frames, 11);
+    let h = calls::hand_over(4, g, frames, 12);
+    let i = calls::hand_over(4, h, frames, 21);
+    calls::hand_over(4, i, frames, 31);
+}
+
 // Desk 4 makes 4.1 after 1.1, 3.1, 3.2.
 fn fourth(frames: &mut [u8]) {
     let d = calls::new(4);
@@ -146,6 +157,7 @@ pub fn run() {
     let one = first(frames);
     first_again(one, frames);
     second_again(two, frames);
+    late(frames);
     fourth(frames);
     let after = third_again(three, frames);
     relations(after);

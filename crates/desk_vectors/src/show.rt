@@ -110,6 +110,11 @@ pub fn marked(answer: Marked, out: &[u8]) {
     words(b"\n");
 }
 
+fn waiting(missing: u16) {
+    number(b": Waiting(", missing as u64);
+    words(b")");
+}
+
 fn executed(k: u16, f: u16) {
     number(b": Executed(", k as u64);
     number(b", ", f as u64);
@@ -119,7 +124,7 @@ fn executed(k: u16, f: u16) {
 pub fn received(answer: Received) {
     match answer {
         Received::Known => words(b": Known"),
-        Received::Waiting => words(b": Waiting"),
+        Received::Waiting(missing) => waiting(missing),
         Received::Executed(k, f) => executed(k, f),
         Received::Refused(r) => refused(r),
     }

@@ -39,7 +39,7 @@ impl Sums {
     pub fn with(mut self, answer: Received) -> Sums {
         match answer {
             Received::Known => self.known = more(self.known, 1),
-            Received::Waiting => self.waiting = more(self.waiting, 1),
+            Received::Waiting(_) => self.waiting = more(self.waiting, 1),
             Received::Executed(k, f) => return self.ran(k, f),
             Received::Refused(_) => self.refused = more(self.refused, 1),
         }

@@ -13,7 +13,7 @@ use Rattle.frame.specs.declared.MarkBox.{MarkBox}
 use Rattle.frame.specs.Answer.{Answer, gives, refused}
 use Rattle.frame.specs.Frame.{overIf}
 use Rattle.frame.specs.Mark.{MarkId, boxRule}
-use Rattle.causality.specs.Answers.{Executed, Known, Numbered, Reception}
+use Rattle.causality.specs.Answers.{Executed, Known, Numbered, Reception, Reply}
 use Rattle.causality.specs.Calls.{Received, Release, arrive, execute, executing, frameOfMark, full, mark, markAnswer, newMark, receiveMark, refuse, release, sameBytes, stateIf, unmade}
 use Rattle.causality.specs.Marks.{All, all, any, find, has, insert, keep, lower, lowest, rising, same, tally, waitingPlaces, without}
 use Rattle.causality.specs.State.{Mark, State, falseStamp, heads, ids, isHead, markId, precedes, ready}
@@ -23,6 +23,7 @@ use Rattle.causality.proofs.Lists.{Picked, absent-all, all-append, all-map, any
 use Rattle.causality.proofs.Logic.{or-cases, same-refl, same→eq}
 use Rattle.causality.proofs.Past.{Good, Standing, not-false-stamp, precedes-past, ready-past, ready-stands, tally-le}
 use Rattle.history.specs.Plain.{DeskLists, MadeMark, Outcome, executeReady, frameSize, handOver, isLast, leaveOut, listsFull, madeId, madeIds, making, newMade, pastListed}
+use Rattle.history.specs.Run.{withoutMissing}
 
 same-bytes-refl : (s : List ℕ) → sameBytes s s ≡ true
 same-bytes-refl [] = refl
@@ -154,15 +155,15 @@ module _ (past : MarkId → List MarkId) where
               grows = λ e. let a = tally-le e (w .id) (ids l) in let b = r .grows e in omega arith;
             })
 
-    -- A desk's outcome and the plain machine's are the same, and the desk stays consistent.
+    -- A desk's outcome, without the number of missing marks, and the plain machine's are the same, and the desk stays consistent.
     pub record Matches (d : State) (t : Outcome Reception) (o : Received) : Type 0 where
-      pub sim : t ≡ record { lists = listsOf (o .state); answer = o .answer }
+      pub sim : t ≡ record { lists = listsOf (o .state); answer = withoutMissing (o .answer) }
       pub own : o .state .own ≡ d .own
       pub ok : Consistent (o .state .executed) (o .state .waiting)
       pub grows : (e : ℕ) → tally e (ids (d .executed)) ≤ tally e (ids (o .state .executed))
 
     -- Nothing changes.
-    unchanged : (d : State) (a : Answer Reception) → Consistent (d .executed) (d .waiting) → Matches d (record { lists = listsOf d; answer = a }) (record { state = d; answer = a })
+    unchanged : (d : State) (a : Answer Reply) → Consistent (d .executed) (d .waiting) → Matches d (record { lists = listsOf d; answer = withoutMissing a }) (record { state = d; answer = a })
     unchanged d a o = record { sim = refl; own = refl; ok = o; grows = λ e. omega arith }
 
     lists-full : (d : State) → listsFull (listsOf d) ≡ full d

@@ -17,7 +17,7 @@ use Rattle.causality.proofs.Kept.{kept}
 use Rattle.causality.proofs.Lists.{Picked, all-ids, all-map, find-all, has-self, keys}
 use Rattle.causality.proofs.Logic.{T→eq, nT→eq, or-inr, same-refl, same→eq}
 use Rattle.history.specs.Plain.{History, MadeMark, Unmade, handOver, handOverAt, listsAt, madeId, madeIds, making, newMade, ofMark, ofReceive, pastOf, plain, plainStep, recorded}
-use Rattle.history.specs.Run.{Run, Step, Written, deskOf, fed, handing, marking, run, runStep, written, writtenId}
+use Rattle.history.specs.Run.{Run, Step, Written, deskOf, fed, handing, marking, run, runStep, withoutMissing, written, writtenId}
 use Rattle.history.proofs.Calls.{MarkCase, declined, granted, made-ids, mark-cases}
 use Rattle.history.proofs.MarkRun.{MarkRun, markStateAt, markStep, receiveFrame, runMarks}
 use Rattle.history.proofs.Simulation.{Inv, Registered, Within, differs, handing-ok, marking-ok, new-id, newAt, start}
@@ -34,7 +34,7 @@ hand-made N w d i = go (find markId i (w .made))
   where
     go : (o : Option Mark) → (elim o as (λ x. MarkRun) [
       | none ↦ record { states = w .states; made = w .made; answers = Unmade ∷ w .answers }
-      | some m ↦ record { states = (d, (receiveFrame N (markStateAt N w d) m) .state) ∷ w .states; made = w .made; answers = ofReceive ((receiveFrame N (markStateAt N w d) m) .answer) ∷ w .answers }
+      | some m ↦ record { states = (d, (receiveFrame N (markStateAt N w d) m) .state) ∷ w .states; made = w .made; answers = ofReceive (withoutMissing ((receiveFrame N (markStateAt N w d) m) .answer)) ∷ w .answers }
     ]) .made ≡ w .made
     go none = refl
     go (some m) = refl

@@ -22,7 +22,7 @@ use Rattle.causality.proofs.Lists.{Picked, all-ids, all-map, any-cong, any-find
 use Rattle.causality.proofs.Logic.{and-fst, and-snd, nT→eq, or-cases, same-refl, same→eq}
 use Rattle.causality.proofs.Past.{Good, Stands, new-stands, precedes-past, tally-le, tally-same}
 use Rattle.history.specs.Plain.{DeskLists, History, Outcome, StepAnswer, Unmade, handOver, handOverAt, listsAt, look, madeId, making, makingAt, newMade, ofMark, ofReceive, plain, plainStep, recorded}
-use Rattle.history.specs.Run.{handing, marking}
+use Rattle.history.specs.Run.{handing, marking, withoutMissing}
 use Rattle.history.proofs.Calls.{Consistent, MarkCase, Matches, Unlisted, declined, granted, listsOf, made-ids, madeOf, mark-cases, new-made, receive-ok}
 use Rattle.history.proofs.MarkRun.{MarkRun, fresh, look-both, look-hit, look-new, markStateAt, markStep, receiveFrame, startMarks}
 
@@ -179,9 +179,9 @@ module _ (N : ℕ) (some-desk : 1 ≤ N) (past : MarkId → List MarkId) (regist
             let mm : Recorded w m = (subst (Picked (Recorded w) (λ v. same i (v .id))) e (find-all (Recorded w) i (w .made) (inv .made))) .0 in
             let x = markStateAt N w d in
             let r : Matches past (Registered w) x (handOver (listsOf past x) (madeOf past m)) (receiveFrame N x m) = receive-ok past (Registered w) N (one w) x m (inv .ok d) (mm .good) (mm .k) (none-unmade m mm) in
-            let q : handOver (listsAt h d) (madeOf past m) ≡ record { lists = listsOf past ((receiveFrame N x m) .state); answer = (receiveFrame N x m) .answer } = ap (λ (p : DeskLists). handOver p (madeOf past m)) (inv .lists d) ∙ r .sim in
+            let q : handOver (listsAt h d) (madeOf past m) ≡ record { lists = listsOf past ((receiveFrame N x m) .state); answer = withoutMissing ((receiveFrame N x m) .answer) } = ap (λ (p : DeskLists). handOver p (madeOf past m)) (inv .lists d) ∙ r .sim in
             let y : State = (receiveFrame N x m) .state in
-            let a : StepAnswer = ofReceive ((receiveFrame N x m) .answer) in
+            let a : StepAnswer = ofReceive (withoutMissing ((receiveFrame N x m) .answer)) in
             let v : MarkRun = after w h inv d y (w .made) a in
             let gr : (j : MarkId) → Within N w j → Within N v j = grow w h inv d y (w .made) a (r .grows) in
             rw (e, markStep) (rw (fh ∙ ap (Option·map (madeOf past)) e, plainStep)

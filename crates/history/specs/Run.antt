@@ -6,7 +6,7 @@ use lib.ListN.{length, take}
 use Rattle.frame.specs.Answer.{Answer, gives, refused}
 use Rattle.frame.specs.Mark.{MarkId}
 use Rattle.frame.specs.declared.MarkBox.{MarkBox}
-use Rattle.causality.specs.Answers.{Numbered}
+use Rattle.causality.specs.Answers.{Numbered, Reception, Reply, Known, Waiting, Executed}
 use Rattle.causality.specs.Marks.{find}
 use Rattle.causality.specs.State.{State}
 use Rattle.causality.specs.Calls.{new, mark, receive}
@@ -40,6 +40,13 @@ abbrev pub written : ℕ → Answer Numbered → List ℕ → List Written → L
 written d (gives n) bytes frames = record { id = record { desk = d; number = n .number }; bytes = take (n .size) bytes } ∷ frames
 written d (refused c) bytes frames = frames
 
+-- Order 1: "The comparison with the history counts Receive answers without" the number that Waiting carries.
+abbrev pub withoutMissing : Answer Reply → Answer Reception
+withoutMissing (gives Known) = gives Known
+withoutMissing (gives (Waiting n)) = gives Waiting
+withoutMissing (gives (Executed k f)) = gives (Executed k f)
+withoutMissing (refused c) = refused c
+
 -- The desks, the frames written and the answers, newest first.
 pub record Run : Type 0 where
   pub states : List (ℕ × State)
@@ -59,7 +66,7 @@ module _ (N : ℕ) where
       elim (find writtenId i (r .frames)) [
         | none ↦ record { states = r .states; frames = r .frames; answers = Unmade ∷ r .answers }
         | some f ↦ let o = receive N (stateAt r d) (f .bytes) in
-            record { states = (d, o .state) ∷ r .states; frames = r .frames; answers = ofReceive (o .answer) ∷ r .answers }
+            record { states = (d, o .state) ∷ r .states; frames = r .frames; answers = ofReceive (withoutMissing (o .answer)) ∷ r .answers }
       ]
 
   -- The steps are listed newest first.

@@ -29,12 +29,12 @@ abbrev pub markedNumbers : Marked → ℕ × ℕ × ℕ
 markedNumbers (Made n size) = (0, n .0, size)
 markedNumbers (NotMarked r) = (numberOf r, 0, 0)
 
--- Refusal; 1 Known, 2 Waiting, 3 Executed; k; f.
-abbrev pub receivedNumbers : Received → ℕ × ℕ × ℕ × ℕ
-receivedNumbers Known = (0, 1, 0, 0)
-receivedNumbers Waiting = (0, 2, 0, 0)
-receivedNumbers (Executed k f) = (0, 3, k, f)
-receivedNumbers (NotReceived r) = (numberOf r, 0, 0, 0)
+-- Refusal; 1 Known, 2 Waiting, 3 Executed; k; f; of Waiting the number of missing marks.
+abbrev pub receivedNumbers : Received → ℕ × ℕ × ℕ × ℕ × ℕ
+receivedNumbers Known = (0, 1, 0, 0, 0)
+receivedNumbers (Waiting missing) = (0, 2, 0, 0, missing)
+receivedNumbers (Executed k f) = (0, 3, k, f, 0)
+receivedNumbers (NotReceived r) = (numberOf r, 0, 0, 0, 0)
 
 -- Refusal; 1 Same, 2 Before, 3 After, 4 Concurrent.
 abbrev pub relatedNumbers : Related → ℕ × ℕ

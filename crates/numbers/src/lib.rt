@@ -19,13 +19,14 @@ pub struct MarkAnswer {
     pub size: usize,
 }
 
-// kind: 1 Known, 2 Waiting, 3 Executed.
+// kind: 1 Known, 2 Waiting, 3 Executed. missing: of Waiting, how many marks are.
 #[repr(C)]
 pub struct ReceiveAnswer {
     pub refusal: u8,
     pub kind: u8,
     pub executed: u16,
     pub dropped: u16,
+    pub missing: u16,
 }
 
 // relation: 1 Same, 2 Before, 3 After, 4 Concurrent.
@@ -90,20 +91,22 @@ pub fn marked(answer: Marked) -> MarkAnswer
 }
 
 pub fn received(answer: Received) -> ReceiveAnswer
-    ensures { λ r. ⌜ receivedNumbers answer ≡ (r .refusal, r .kind, r .executed, r .dropped) ⌝ }
+    ensures { λ r. ⌜ receivedNumbers answer ≡ (r .refusal, r .kind, r .executed, r .dropped, r .missing) ⌝ }
 {
     let mut r = ReceiveAnswer {
         refusal: 0,
         kind: 0,
         executed: 0,
         dropped: 0,
+        missing: 0,
     };
     match answer {
         Received::Known => {
             r.kind = 1;
         }
-        Received::Waiting => {
+        Received::Waiting(missing) => {
             r.kind = 2;
+            r.missing = missing;
         }
         Received::Executed(k, f) => {
             r.kind = 3;

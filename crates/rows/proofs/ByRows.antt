@@ -10,16 +10,15 @@ use native.Mathlib.Numerals.{sub-one}
 use native.Mathlib.Omega.{arith}
 use Rattle.frame.specs.declared.MarkBox.{MarkBox}
 use Rattle.frame.specs.Mark.{MarkId}
-use Rattle.causality.specs.Marks.{All, all, any, has, tally}
+use Rattle.causality.specs.Marks.{All, any, has}
 use Rattle.causality.specs.State.{Mark, falseStamp, ids, precedes, previous, ready}
-use Rattle.causality.proofs.Lists.{all-at, all-intro, any-find, any-of}
+use Rattle.causality.proofs.Lists.{any-find, any-of}
 use Rattle.causality.proofs.Logic.{and-fst, and-intro, and-snd, bool-ext, or-cases, or-inl, or-inr, split}
 use Rattle.causality.proofs.Numbers.{Strict}
-use Rattle.causality.proofs.Past.{Counted, prefix-has, prefix-le}
 use Rattle.causality.proofs.Reach.{Follows, Sound}
 use Rattle.causality.proofs.RowLaws.{entries-of-row, entries-strict, entriesFrom, entriesOfRow, false-by-rows, row-of-entries, show, shown, trace-precedes, under, under-trace}
 use Rattle.causality.proofs.Rows.{rowOf, trace}
-use Rattle.rows.specs.View.{allWithin, rowFn, someReached}
+use Rattle.rows.specs.View.{rowFn, someReached}
 
 -- A row that is known count by count.
 pub row-at : (n : ℕ) (r : List ℕ) (f : ℕ → ℕ) → ((j : ℕ) → j < n → getD r j 0 ≡ f (suc j)) → (d : ℕ) → 1 ≤ d → d ≤ n → rowFn r d ≡ f d
@@ -56,78 +55,6 @@ under-cong n (m ∷ older) a s s′ r r′ f g d p q =
     go false false h x y = y
     go true false h x y = let z : _≡_ {A = ℕ} 0 1 = cc in let w : ⊥ = omega arith in absurd w
     go false true h x y = let z : _≡_ {A = ℕ} 0 1 = cc in let w : ⊥ = omega arith in absurd w
-
--- READY
-
-all-within : (k : ℕ) (r t : List ℕ) → T (allWithin k r t) → (d : ℕ) → 1 ≤ d → d ≤ k → rowFn r d ≤ rowFn t d
-all-within zero r t h d p q = let z : ⊥ = omega arith in absurd z
-all-within (suc k) r t h d p q = elim (split (leb d k)) [
-  | inl u ↦ all-within k r t (and-snd (leb (getD r k 0) (getD t k 0)) (allWithin k r t) h) d p (leb→le d k u)
-  | inr u ↦
-      let v = nleb→lt d k u in
-      let e : d - 1 ≡ k = omega arith in
-      rw e (leb→le (getD r k 0) (getD t k 0) (and-fst (leb (getD r k 0) (getD t k 0)) (allWithin k r t) h))
-]
-
-within-all : (k : ℕ) (r t : List ℕ) → ((d : ℕ) → 1 ≤ d → d ≤ k → rowFn r d ≤ rowFn t d) → T (allWithin k r t)
-within-all zero r t f = tt
-within-all (suc k) r t f =
-    let e : suc k - 1 ≡ k = omega arith in
-    and-intro (leb (getD r k 0) (getD t k 0)) (allWithin k r t) (le→leb (getD r k 0) (getD t k 0) (rw e at (f (suc k) (omega arith) (omega arith)))) (within-all k r t (λ d p q. f d p (omega arith)))
-
--- The readiness test by the tally.
-pub ready-by-tally : (n : ℕ) (l : List Mark) → Counted (ids l) → (t row : List ℕ) → ((d : ℕ) → 1 ≤ d → d ≤ n → rowFn t d ≡ tally d (ids l))
-    → (i : MarkId) (b : MarkBox) → 1 ≤ i .desk → i .desk ≤ n → 1 ≤ i .number
-    → ready l (record { id = i; extent = b; stamp = entriesOfRow n (rowFn row) }) ≡ (allWithin n row t && leb (i .number) (suc (rowFn t (i .desk))))
-unfolding ready previous
-ready-by-tally n l c t row f i b lo hi pos = bool-ext (e₁ && e₂) (allWithin n row t && leb (i .number) (suc (rowFn t (i .desk)))) there back
-  where
-    es : List MarkId
-    es = entriesOfRow n (rowFn row)
-
-    e₁ : Bool
-    e₁ = all (λ e. has e (ids l)) es
-
-    pr : MarkId
-    pr = record { desk = i .desk; number = i .number - 1 }
-
-    e₂ : Bool
-    e₂ = leb (i .number) 1 || has pr (ids l)
-
-    at : rowFn t (i .desk) ≡ tally (i .desk) (ids l)
-    at = f (i .desk) lo hi
-
-    there : T (e₁ && e₂) → T (allWithin n row t && leb (i .number) (suc (rowFn t (i .desk))))
-    there u = and-intro (allWithin n row t) (leb (i .number) (suc (rowFn t (i .desk))))
-        (within-all n row t (λ d p q. elim (split (leb 1 (rowFn row d))) [
-          | inl v ↦
-              let e : MarkId = record { desk = d; number = rowFn row d } in
-              let m = all-at (λ e. has e (ids l)) es (and-fst e₁ e₂ u) e (show (rowFn row) 1 n e (record { low = p; high = omega arith; value = refl; pos = leb→le 1 (rowFn row d) v })) in
-              rw (f d p q) ((prefix-le (ids l) c e m) .1)
-          | inr v ↦ let k = nleb→lt 1 (rowFn row d) v in omega arith
-        ]))
-        (le→leb (i .number) (suc (rowFn t (i .desk))) (elim (or-cases (leb (i .number) 1) (has pr (ids l)) (and-snd e₁ e₂ u)) [
-          | inl v ↦ let k = leb→le (i .number) 1 v in omega arith
-          | inr v ↦ let k = (prefix-le (ids l) c pr v) .1 in let a = at in omega arith
-        ]))
-
-    back : T (allWithin n row t && leb (i .number) (suc (rowFn t (i .desk)))) → T (e₁ && e₂)
-    back u =
-        let a = all-within n row t (and-fst (allWithin n row t) (leb (i .number) (suc (rowFn t (i .desk)))) u) in
-        let m = leb→le (i .number) (suc (rowFn t (i .desk))) (and-snd (allWithin n row t) (leb (i .number) (suc (rowFn t (i .desk)))) u) in
-        and-intro e₁ e₂
-        (all-intro (λ e. has e (ids l)) es (λ e te.
-        let w = shown (rowFn row) 1 n e te in
-        let lo′ = w .low in
-        let hi′ : e .desk ≤ n = let x = w .high in omega arith in
-        let v = w .value in
-        let g = a (e .desk) lo′ hi′ in
-        let h = f (e .desk) lo′ hi′ in
-        prefix-has (ids l) c e (w .pos) (omega arith)))
-        (elim (split (leb (i .number) 1)) [
-          | inl v ↦ or-inl (leb (i .number) 1) (has pr (ids l)) v
-          | inr v ↦ let k = nleb→lt (i .number) 1 v in let x = at in or-inr (leb (i .number) 1) (has pr (ids l)) (prefix-has (ids l) c pr (omega arith) (omega arith))
-        ])
 
 -- FALSE STAMPS
 

@@ -1,6 +1,6 @@
 -- The search for the oldest of the marks that a row names, turn by turn: names counted, met, struck. What its place tells. Assumes nothing.
-use Prim.Native.Nat.{_+_, _-_, _<_, _≤_, suc, zero, ℕ}
-use borrow.Author.Tests.{eqb-false, le-ltb, lt-ltb, ltb-false, ltb-true}
+use Prim.Native.Nat.{_-_, _<_, _≤_, suc, zero, ℕ}
+use borrow.Author.Tests.{eqb-false, lt-ltb, ltb-false, ltb-true}
 use lib.Dec.{T, eqb, eqb→eq, leb, leb→le, ltb, nleb→lt, not-T}
 use lib.ListN.{getD, length, length-set, set}
 use lib.Seq.{getD-set-other, getD-set-same}
@@ -9,7 +9,6 @@ use mathlib.Core.List.{List}
 use mathlib.Core.Logic.{_⊎_, inl, inr, ⊎-elim}
 use mathlib.Core.Path.{_∙_, _≡_, ap, refl, subst, sym}
 use native.Mathlib.Nat.{eq-or-lt-of-le}
-use native.Mathlib.Numerals.{add-one}
 use native.Mathlib.Omega.{arith}
 use Rattle.frame.specs.declared.MarkBox.{MarkBox}
 use Rattle.frame.specs.Mark.{MarkId}
@@ -22,30 +21,6 @@ use Rattle.rows.specs.Steps.{AllFrom, Oldest, StandsFrom}
 use Rattle.rows.proofs.Places.{not-before}
 
 -- NAMES
-
-pub names-le : (k : ℕ) (r : List ℕ) → namesIn k r ≤ k
-unfolding namesIn
-names-le zero r = omega arith
-names-le (suc k) r = go (ltb 0 (getD r k 0)) (names-le k r)
-  where
-    x : ℕ
-    x = namesIn k r
-
-    go : (b : Bool) → x ≤ k → (elim b as (λ z. ℕ) [ true ↦ suc x | false ↦ x ]) ≤ suc k
-    go true h = omega arith
-    go false h = omega arith
-
-pub names-start : (r : List ℕ) → 0 ≡ namesIn 0 r
-unfolding namesIn
-names-start r = refl
-
-pub names-more : (j m : ℕ) (r : List ℕ) → m ≡ namesIn j r → 0 < getD r j 0 → m + 1 ≡ namesIn (j + 1) r
-unfolding namesIn
-names-more j m r e h = rw (add-one j, add-one m, lt-ltb 0 (getD r j 0) h, namesIn) (ap suc e)
-
-pub names-kept : (j m : ℕ) (r : List ℕ) → m ≡ namesIn j r → getD r j 0 ≤ 0 → m ≡ namesIn (j + 1) r
-unfolding namesIn
-names-kept j m r e h = rw (add-one j, le-ltb 0 (getD r j 0) h, namesIn) e
 
 -- No name is left.
 names-zero : (k : ℕ) (r : List ℕ) → namesIn k r ≡ 0 → (j : ℕ) → j < k → getD r j 0 ≡ 0

@@ -16,7 +16,7 @@ use Rattle.causality.specs.Marks.{All}
 use Rattle.causality.specs.State.{Mark}
 use Rattle.causality.proofs.Rows.{rowOf}
 use Rattle.causality.proofs.RowLaws.{entriesOfRow, row-of-entries, under}
-use Rattle.rows.specs.View.{Named, allWithin, markAt, rowAt, rowFn, someReached, view}
+use Rattle.rows.specs.View.{Named, markAt, rowAt, rowFn, someReached, view}
 use Rattle.rows.proofs.ByRows.{row-at, under-cong}
 
 -- The first j of a row's n counts are those of f, the later ones are as at the start.
@@ -54,22 +54,7 @@ module _ (n : ℕ) (f : ℕ → ℕ) (r₀ : List ℕ) where
   pub passed-all : (r : List ℕ) (j : ℕ) → Passed n f r₀ r j → n ≤ j → (k : ℕ) → k < n → getD r k 0 ≡ f k
   passed-all r j w h k l = w .passed k (omega arith)
 
--- The tests of two rows, count by count: no count of r is above that of t; a count of s is no 0 and at most that of r.
-pub within-more : (j : ℕ) (r t : List ℕ) → allWithin j r t ≡ true → getD r j 0 ≤ getD t j 0 → allWithin (j + 1) r t ≡ true
-within-more j r t e h = rw (add-one j, le-leb (getD r j 0) (getD t j 0) h, e) refl
-
-not-within : (n j : ℕ) (r t : List ℕ) → j < n → getD t j 0 < getD r j 0 → allWithin n r t ≡ false
-not-within zero j r t h l = let z : ⊥ = omega arith in absurd z
-not-within (suc n) j r t h l =
-    ⊎-elim (λ q. ap (λ (b : Bool). b && allWithin n r t) (lt-leb (getD r n 0) (getD t n 0) (subst (λ (i : ℕ). getD t i 0 < getD r i 0) q l)))
-    (λ q. ap (λ (b : Bool). leb (getD r n 0) (getD t n 0) && b) (not-within n j r t q l) ∙ and-false (leb (getD r n 0) (getD t n 0))) (eq-or-lt-of-le {n = j} {m = n} (omega arith))
-
-pub within-no : (n j : ℕ) (r t : List ℕ) (b : Bool) → j < n → getD t j 0 < getD r j 0 → false ≡ (allWithin n r t && b)
-within-no n j r t b h l = sym (ap (λ (a : Bool). a && b) (not-within n j r t h l))
-
-pub within-yes : (n j : ℕ) (r t : List ℕ) (a b : Bool) → j ≡ n → allWithin j r t ≡ true → a ≡ b → a ≡ (allWithin n r t && b)
-within-yes n j r t a b q e p = p ∙ sym (ap (λ (c : Bool). c && b) (subst (λ (i : ℕ). allWithin i r t ≡ true) q e))
-
+-- The test of two rows, count by count: a count of s is no 0 and at most that of r.
 pub reached-more : (j : ℕ) (s r : List ℕ) → someReached j s r ≡ false → (getD s j 0 ≤ 0) ⊎ (getD r j 0 < getD s j 0) → someReached (j + 1) s r ≡ false
 reached-more j s r e (inl h) = rw (add-one j, le-ltb 0 (getD s j 0) h, e) refl
 reached-more j s r e (inr h) = rw (add-one j, lt-leb (getD s j 0) (getD r j 0) h, and-false, e) refl

@@ -1,16 +1,16 @@
 -- What the inner functions do to lent rows and arrays. Inner: need not be believed.
-use mathlib.Core.Bool.{Bool, _&&_, _||_}
+use mathlib.Core.Bool.{Bool, not, _&&_, _||_, cond}
 use mathlib.Core.Path.{_≡_}
 use mathlib.Core.List.{List}
 use Prim.Native.Nat.{ℕ, suc, max, _+_, _-_, _*_, _≤_, _<_}
-use lib.Dec.{ltb}
+use lib.Dec.{eqb, ltb}
 use lib.ListN.{length, getD, set, take}
 use Rattle.frame.specs.Frame.{entryBytes}
 use Rattle.frame.specs.Mark.{MarkId}
 use Rattle.frame.specs.declared.MarkBox.{MarkBox}
 use Rattle.causality.proofs.RowLaws.{entriesOfRow, under}
 use Rattle.rows.specs.declared.Held.{Held}
-use Rattle.rows.specs.View.{width, rowFn, nameAt, view, boxAt, someReached, SameOutside}
+use Rattle.rows.specs.View.{width, rowFn, aboveIn, nameAt, view, boxAt, someReached, SameOutside}
 
 -- A row joined with row p of the stamps: at each desk the greater count.
 pub record Joined (ss : List ℕ) (p : ℕ) (before after : List ℕ) : Type 0 where
@@ -39,6 +39,12 @@ pub record Oldest (ds ns row : List ℕ) (count r : ℕ) : Type 0 where
   pub within : r ≤ count
   pub from : 0 < r → AllFrom ds ns row count r
   pub last : (p : ℕ) → p ≤ count → AllFrom ds ns row count p → p ≤ r
+
+-- The missing marks by a row of n counts and the tally: those that the row names and the tally does not count, and the desk's previous mark where it
+-- is neither counted nor named.
+abbrev pub missingBy : ℕ → List ℕ → ℕ → ℕ → List ℕ → ℕ
+missingBy n tally d number row =
+    aboveIn n row tally + cond (ltb (suc (getD tally (d - 1) 0)) number && not (eqb (getD row (d - 1) 0) (number - 1))) 1 0
 
 -- The false-stamp test by rows: an entry precedes another, or the previous mark of the desk neither is an entry nor precedes one.
 abbrev pub falseBy : List ℕ → List ℕ → ℕ → ℕ → Bool

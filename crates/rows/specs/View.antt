@@ -64,10 +64,10 @@ view n (suc p) ds ns bs ss = markAt n ds ns bs ss p ∷ view n p ds ns bs ss
 unfoldable pub Named : ℕ → ℕ → List ℕ → Type 0
 Named n count ds = (p : ℕ) → p < count → (1 ≤ getD ds p 0) × (getD ds p 0 ≤ n)
 
--- The first k counts of the one row are at most those of the other.
-abbrev pub allWithin : ℕ → List ℕ → List ℕ → Bool
-allWithin zero r t = true
-allWithin (suc k) r t = leb (getD r k 0) (getD t k 0) && allWithin k r t
+-- How many of the first k counts of the one row are above those of the other.
+unfoldable pub aboveIn : ℕ → List ℕ → List ℕ → ℕ
+aboveIn zero r t = 0
+aboveIn (suc k) r t = elim (ltb (getD t k 0) (getD r k 0)) [ true ↦ suc (aboveIn k r t) | false ↦ aboveIn k r t ]
 
 -- One of the first k counts of the one row is no 0 and at most that of the other.
 abbrev pub someReached : ℕ → List ℕ → List ℕ → Bool

@@ -1,6 +1,5 @@
 // The engine's inner functions over lent arrays and rows by value: one count for each desk.
 ghost use mathlib.Core.Path.{_≡_};
-ghost use mathlib.Core.Bool.{_&&_};
 ghost use Prim.Native.Nat.{ℕ, suc, max, _+_, _-_, _*_, _≤_, _<_};
 ghost use lib.Dec.{leb};
 ghost use lib.ListN.{length, getD};
@@ -8,8 +7,8 @@ ghost use Rattle.frame.specs.Frame.{entriesOf};
 ghost use Rattle.frame.specs.declared.MarkBox.{MarkBox};
 ghost use Rattle.causality.specs.Marks.{places};
 ghost use Rattle.causality.proofs.Rows.{rowOf};
-ghost use Rattle.rows.specs.View.{width, rowFn, markAt, heldMark, Named, allWithin, namesIn, sameCounts, boxAt, SameOutside};
-ghost use Rattle.rows.specs.Steps.{Joined, Traced, Oldest, EntriesIn, HasSlot, Stored, falseBy};
+ghost use Rattle.rows.specs.View.{width, rowFn, markAt, heldMark, Named, aboveIn, sameCounts, boxAt, SameOutside};
+ghost use Rattle.rows.specs.Steps.{Joined, Traced, Oldest, EntriesIn, HasSlot, Stored, missingBy, falseBy};
 use causality::Place;
 use frame::DESKS;
 use frame::MarkBox;
@@ -90,14 +89,14 @@ pub fn trace<'a>(
     }
 }
 
-// How many marks a row names.
-fn names(row: [u16; WIDTH]) -> usize
-    ensures { λ r. ⌜ r ≡ namesIn width row ⌝ }
+// At how many desks a row's count is above that of another row.
+fn above(row: [u16; WIDTH], other: [u16; WIDTH]) -> u16
+    ensures { λ r. ⌜ r ≡ aboveIn width row other ⌝ }
 {
-    let mut n = 0;
+    let mut n: u16 = 0;
     let mut j = 0;
     while j < WIDTH {
-        if 0 < row[j] {
+        if other[j] < row[j] {
             n += 1;
         }
         j += 1;
@@ -115,7 +114,7 @@ pub fn oldest<'a>(
     requires { ⌜ (count ≤ places) × Named width count (now desks) ⌝ }
     ensures { λ r. ⌜ Oldest (now (desks .entry)) (now (numbers .entry)) row count r ⌝ }
 {
-    let mut left = names(row);
+    let mut left = above(row, [0; WIDTH]);
     let mut p = count;
     while 0 < p {
         if left == 0 {
@@ -134,20 +133,20 @@ pub fn oldest<'a>(
     p
 }
 
-// The readiness test, by the tally: all entries are executed, and so is the desk's previous mark.
-pub fn ready(tally: [u16; WIDTH], desk: u8, number: u16, row: [u16; WIDTH]) -> bool
+// The readiness test, by the tally: how many marks are missing, entries that are not executed and the desk's previous mark where it is neither executed
+// nor an entry. A mark is ready if none is.
+pub fn missing(tally: [u16; WIDTH], desk: u8, number: u16, row: [u16; WIDTH]) -> u16
     requires { ⌜ (1 ≤ desk) × (desk ≤ width) ⌝ }
-    ensures { λ r. ⌜ r ≡ (allWithin width row tally && leb number (suc (getD tally (desk - 1) 0))) ⌝ }
+    ensures { λ r. ⌜ r ≡ missingBy width tally desk number row ⌝ }
 {
-    let mut j = 0;
-    while j < WIDTH {
-        if tally[j] < row[j] {
-            return false;
-        }
-        j += 1;
-    }
+    let n = above(row, tally);
     let d = desk as usize - 1;
-    (number as u32) <= (tally[d] as u32) + 1
+    if (tally[d] as u32) + 1 < (number as u32) {
+        if row[d] != number - 1 {
+            return n + 1;
+        }
+    }
+    n
 }
 
 // The false-stamp test, by the row of a stamp and the row of the marks that precede an entry of it.

@@ -1,7 +1,7 @@
 -- What the code of Receive finds, test by test, is the judgement. Assumes nothing.
-use Prim.Native.Nat.{_+_, _-_, _<_, _≤_, suc, ℕ}
+use Prim.Native.Nat.{_+_, _-_, _<_, _≤_, ℕ}
 use borrow.Author.Tests.{eq-eqb, ne-eqb}
-use lib.Dec.{eqb, leb, ltb}
+use lib.Dec.{T, eqb, ltb}
 use lib.ListN.{getD, length}
 use mathlib.Core.Bool.{Bool, _&&_, _||_, false, true}
 use mathlib.Core.List.{List, [], _++_, _∷_}
@@ -11,17 +11,20 @@ use Rattle.rows.specs.declared.Held.{Held}
 use Rattle.frame.specs.Mark.{MarkId, desks}
 use Rattle.causality.specs.Calls.{frameOfMark, full, sameBytes, unmade}
 use Rattle.causality.specs.Marks.{any, find, places, same, tally, waitingPlaces}
-use Rattle.causality.specs.State.{Mark, State, falseStamp, ids, markId, ready}
+use Rattle.causality.specs.State.{Mark, State, falseStamp, ids, markId, missing, ready}
 use Rattle.causality.proofs.Fit.{Fit}
+use Rattle.causality.proofs.Missing.{ready-missing}
 use Rattle.causality.proofs.Reach.{Sound, sound-counted}
 use Rattle.causality.proofs.RowLaws.{entriesOfRow}
-use Rattle.rows.specs.View.{allWithin, boxAt, heldId, heldMark, markAt, placeAt, rowFn, sameCounts, width}
+use Rattle.rows.specs.View.{boxAt, heldId, heldMark, markAt, placeAt, rowFn, sameCounts, width}
 use Rattle.executed.specs.Arrays.{Arrays}
 use Rattle.waiting.specs.declared.Waiting.{Waiting}
 use Rattle.verdict.specs.Kept.{KeptIn, stateIn}
 use Rattle.verdict.specs.Judgement.{Tallies, admission, holds, judgement, knownIf, meeting, refuses, runs, sameBox, unmadeBy}
 use Rattle.rows.proofs.Arrays.{view-at}
-use Rattle.rows.proofs.ByRows.{ready-by-tally, row-at}
+use Rattle.rows.specs.Steps.{missingBy}
+use Rattle.rows.proofs.ByRows.{row-at}
+use Rattle.rows.proofs.MissingLaws.{missing-by-tally}
 use Rattle.verdict.proofs.Invariant.{kept-fit, kept-own, kept-waiting-fit}
 use Rattle.verdict.proofs.Judged.{known-by-row, unmade-by-row}
 use Rattle.rows.proofs.Places.{found-none, found-some}
@@ -33,32 +36,46 @@ module _ (st : State) (h : Held) (t : List ℕ) (count waiting : ℕ) (long : le
   unfolding full
   full-test = λ i. eqb (long i + many i) places
 
-  pub ready-test : ready (st .executed) (heldMark h) ≡ (allWithin width (h .row) t && leb (h .number .0) (suc (getD t (h .desk - 1) 0)))
-  ready-test = ready-by-tally width (st .executed) (sound-counted (st .executed) sound) t (h .row) ts (heldId h) (h .extent) (f .range .low) (f .range .high) (f .range .first)
-
   pub admit-full : count + waiting ≡ places → refuses 9 ≡ admission st (heldMark h)
   unfolding admission
   admit-full e = rw (full-test ∙ eq-eqb (count + waiting) places e, admission) refl
 
-  module _ (n : count + waiting ≡ places → ⊥) where
+  -- The readiness test yields x.
+  module _ (n : count + waiting ≡ places → ⊥) (x : ℕ) (e : x ≡ missingBy width t (h .desk) (h .number .0) (h .row)) where
     room : full st ≡ false
     room = full-test ∙ ne-eqb (count + waiting) places n
 
-    pub admit-false : ready (st .executed) (heldMark h) ≡ true → falseStamp (st .executed) (heldMark h) ≡ true → refuses 11 ≡ admission st (heldMark h)
-    unfolding admission
-    admit-false r s = rw (room, admission) (rw r (rw s refl))
+    short-test : missing (st .executed) (heldMark h) ≡ x
+    short-test = missing-by-tally width (st .executed) (sound-counted (st .executed) sound) t (h .row) ts (heldId h) (h .extent) (f .range .low) (f .range .high) ∙ sym e
 
-    pub admit-runs : ready (st .executed) (heldMark h) ≡ true → falseStamp (st .executed) (heldMark h) ≡ false → runs ≡ admission st (heldMark h)
-    unfolding admission
-    admit-runs r s = rw (room, admission) (rw r (rw s refl))
+    ready-test : ready (st .executed) (heldMark h) ≡ eqb x 0
+    ready-test = ready-missing (st .executed) (heldMark h) ∙ ap (λ (k : ℕ). eqb k 0) short-test
 
-    pub admit-crowded : ready (st .executed) (heldMark h) ≡ false → waiting ≡ waitingPlaces → refuses 10 ≡ admission st (heldMark h)
-    unfolding admission
-    admit-crowded r e = rw (room, admission) (rw r (rw (ap (λ (x : ℕ). eqb x waitingPlaces) many ∙ eq-eqb waiting waitingPlaces e) refl))
+    -- Ready; b is what the false-stamp test finds then.
+    module _ (z : x ≡ 0) (b : Bool) (g : T (ready (st .executed) (heldMark h)) → b ≡ falseStamp (st .executed) (heldMark h)) where
+      is-ready : ready (st .executed) (heldMark h) ≡ true
+      is-ready = ready-test ∙ eq-eqb x 0 z
 
-    pub admit-holds : ready (st .executed) (heldMark h) ≡ false → (waiting ≡ waitingPlaces → ⊥) → holds ≡ admission st (heldMark h)
-    unfolding admission
-    admit-holds r e = rw (room, admission) (rw r (rw (ap (λ (x : ℕ). eqb x waitingPlaces) many ∙ ne-eqb waiting waitingPlaces e) refl))
+      pub admit-false : b ≡ true → refuses 11 ≡ admission st (heldMark h)
+      unfolding admission
+      admit-false s = rw (room, admission) (rw is-ready (rw (sym (g (rw is-ready tt)) ∙ s) refl))
+
+      pub admit-runs : b ≡ false → runs ≡ admission st (heldMark h)
+      unfolding admission
+      admit-runs s = rw (room, admission) (rw is-ready (rw (sym (g (rw is-ready tt)) ∙ s) refl))
+
+    -- Not ready.
+    module _ (z : x ≡ 0 → ⊥) where
+      not-ready : ready (st .executed) (heldMark h) ≡ false
+      not-ready = ready-test ∙ ne-eqb x 0 z
+
+      pub admit-crowded : waiting ≡ waitingPlaces → refuses 10 ≡ admission st (heldMark h)
+      unfolding admission
+      admit-crowded w = rw (room, admission) (rw not-ready (rw (ap (λ (x : ℕ). eqb x waitingPlaces) many ∙ eq-eqb waiting waitingPlaces w) refl))
+
+      pub admit-holds : (waiting ≡ waitingPlaces → ⊥) → holds x ≡ admission st (heldMark h)
+      unfolding admission
+      admit-holds w = rw (room, admission) (rw not-ready (rw (ap (λ (x : ℕ). eqb x waitingPlaces) many ∙ ne-eqb waiting waitingPlaces w) (ap holds (sym short-test))))
 
 -- KNOWN
 

@@ -10,7 +10,7 @@ use Rattle.frame.specs.Answer.{numberOf}
 use Rattle.frame.specs.Mark.{desks}
 use Rattle.frame.specs.declared.MarkBox.{MarkBox}
 use Rattle.causality.specs.Marks.{waitingPlaces, any, find, tally}
-use Rattle.causality.specs.State.{Mark, markId, State, ids, ready, falseStamp}
+use Rattle.causality.specs.State.{Mark, markId, State, ids, ready, missing, falseStamp}
 use Rattle.causality.specs.Calls.{full, unmade, sameBytes, frameOfMark}
 use Rattle.causality.proofs.Reach.{Sound}
 use Rattle.rows.specs.View.{boxAt, heldMark, rowFn, view, width}
@@ -26,15 +26,15 @@ use Rattle.verdict.specs.Kept.{KeptIn}
 abbrev pub sameBox : MarkBox → MarkBox → Bool
 sameBox a b = eqb (a .start) (b .start) && (eqb (a .end) (b .end) && (eqb (a .low) (b .low) && eqb (a .high) (b .high)))
 
--- What Receive finds of a mark: a refusal, or what it does.
+-- What Receive finds of a mark: a refusal, or what it does; a mark that it holds is short of so many.
 pub data Judgement : Type 0 where
-  refuses : ℕ → Judgement
-  knows holds runs : Judgement
+  refuses holds : ℕ → Judgement
+  knows runs : Judgement
 
 abbrev pub verdictOf : Verdict → Judgement
 verdictOf (Refused r) = refuses (numberOf r)
 verdictOf Known = knows
-verdictOf Waits = holds
+verdictOf (Waits short) = holds short
 verdictOf Runs = runs
 
 -- Of a mark that is neither executed nor waiting: 9, 10, 11.
@@ -43,7 +43,7 @@ admission st m =
     elim (full st) [
       | true ↦ refuses 9
       | false ↦ elim (ready (st .executed) m) [
-        | false ↦ elim (eqb (length (st .waiting)) waitingPlaces) [ true ↦ refuses 10 | false ↦ holds ]
+        | false ↦ elim (eqb (length (st .waiting)) waitingPlaces) [ true ↦ refuses 10 | false ↦ holds (missing (st .executed) m) ]
         | true ↦ elim (falseStamp (st .executed) m) [ true ↦ refuses 11 | false ↦ runs ]
       ]
     ]

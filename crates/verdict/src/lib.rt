@@ -18,11 +18,11 @@ use rows::PLACES;
 use rows::WIDTH;
 use waiting::WAITING;
 
-// What Receive finds of a mark: a refusal, or what it does.
+// What Receive finds of a mark: a refusal, or what it does. In Waits, how many marks are missing.
 pub enum Verdict {
     Refused(Refusal),
     Known,
-    Waits,
+    Waits(u16),
     Runs,
 }
 
@@ -130,7 +130,8 @@ fn admit<'a>(
     if count + waiting == PLACES {
         return Verdict::Refused(Refusal::DeskFull);
     }
-    if rows::ready(tally, h.desk, n.0, row) {
+    let short = rows::missing(tally, h.desk, n.0, row);
+    if short == 0 {
         if is_false(desks, numbers, stamps, count, h) {
             return Verdict::Refused(Refusal::FalseStamp);
         }
@@ -139,7 +140,7 @@ fn admit<'a>(
     if waiting == WAITING {
         return Verdict::Refused(Refusal::WaitingFull);
     }
-    Verdict::Waits
+    Verdict::Waits(short)
 }
 
 // Of a mark of the same name: Known, or 8.

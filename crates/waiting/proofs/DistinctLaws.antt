@@ -59,7 +59,7 @@ module _ (N : ℕ) where
     where
       go : {x : Received} → ReceiveCase st m x → Distinct (x .state .waiting)
       go (stays a z) = d
-      go (waits a b c) = (absent (m .id) (st .executed) (st .waiting) (a .absent), d)
+      go (waits a b c n p) = (absent (m .id) (st .executed) (st .waiting) (a .absent), d)
       go (executes a b c) = distinct-release (length (st .waiting)) (m ∷ st .executed) (st .waiting) 1 0 d
 
   distinct-receive : (st : State) (s : List ℕ) → Distinct (st .waiting) → Distinct ((receive N st s) .state .waiting)

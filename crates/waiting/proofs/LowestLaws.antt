@@ -1,9 +1,9 @@
 -- The search for the ready mark of lowest desk, slot by slot. n: how many desks. Assumes nothing.
-use Prim.Native.Nat.{_*_, _+_, _-_, _<_, _≤_, suc, ℕ}
-use borrow.Author.Tests.{le-ltb, lt-ltb}
-use lib.Dec.{leb, ltb}
+use Prim.Native.Nat.{_*_, _+_, _-_, _<_, _≤_, ℕ}
+use borrow.Author.Tests.{eq-eqb, le-ltb, lt-ltb, ne-eqb}
+use lib.Dec.{eqb, ltb}
 use lib.ListN.{getD}
-use mathlib.Core.Bool.{Bool, _&&_, false, true}
+use mathlib.Core.Bool.{Bool, false, true}
 use mathlib.Core.List.{List}
 use mathlib.Core.Logic.{_⊎_, inl, inr, ⊎-elim}
 use mathlib.Core.Option.{Option, none, some}
@@ -14,10 +14,12 @@ use Rattle.frame.specs.Mark.{MarkId}
 use Rattle.frame.specs.declared.MarkBox.{MarkBox}
 use Rattle.causality.specs.Marks.{lower, lowest}
 use Rattle.causality.specs.State.{Mark, markId, ready}
-use Rattle.rows.specs.View.{Named, allWithin, markAt, placeAt, rowAt, rowFn, view}
-use Rattle.rows.proofs.ByRows.{entries-cong, ready-by-tally}
+use Rattle.rows.specs.View.{Named, markAt, placeAt, rowAt, rowFn, view}
+use Rattle.rows.specs.Steps.{missingBy}
+use Rattle.rows.proofs.ByRows.{entries-cong}
+use Rattle.rows.proofs.MissingLaws.{ready-by-tally}
 use Rattle.rows.proofs.RowSteps.{named-at}
-use Rattle.waiting.specs.Queue.{Numbered, TallyOf, named}
+use Rattle.waiting.specs.Queue.{TallyOf, named}
 use Rattle.waiting.proofs.ListLaws.{listOf, view-list}
 
 lower-new : (h v : Mark) → h .id .desk ≤ v .id .desk → lower markId h (some v) ≡ h
@@ -50,20 +52,16 @@ module _ (count : ℕ) (m : ℕ → Mark) where
     chosen-passed : t (m i) ≡ false → slotOf b ≡ lowest markId t (listOf m (i + 1))
     chosen-passed e = rw (add-one i, e, lowest) w
 
-numbered-at : (count : ℕ) (ns : List ℕ) (p : ℕ) → Numbered count ns → p < count → 1 ≤ getD ns p 0
-unfolding Numbered
-numbered-at count ns p f l = f p l
-
 module _ (n count : ℕ) (ds ns ss t : List ℕ) where
   -- The readiness of slot i, by the tally and a copy of its row.
-  ready-slot : (l : List Mark) (bs : ℕ → MarkBox) (row : List ℕ) (i : ℕ) → TallyOf n l t → Named n count ds → Numbered count ns → i < count
+  ready-slot : (l : List Mark) (bs : ℕ → MarkBox) (row : List ℕ) (i : ℕ) → TallyOf n l t → Named n count ds → i < count
       → ((j : ℕ) → j < n → getD row j 0 ≡ getD ss (i * n + j) 0)
-      → ready l (markAt n ds ns bs ss i) ≡ (allWithin n row t && leb (getD ns i 0) (suc (getD t (getD ds i 0 - 1) 0)))
-  ready-slot l bs row i ts d m h r =
+      → ready l (markAt n ds ns bs ss i) ≡ eqb (missingBy n t (getD ds i 0) (getD ns i 0) row) 0
+  ready-slot l bs row i ts d h r =
       let f = named-at n count ds i d h in
       let e = entries-cong n (rowAt n ss i) (rowFn row) (λ x lo hi. sym (r (x - 1) (omega arith))) in
       ap (λ (es : List MarkId). ready l (record { id = named (getD ds i 0) (getD ns i 0); extent = bs i; stamp = es })) e
-      ∙ ready-by-tally n l (ts .counted) t row (ts .tallied) (named (getD ds i 0) (getD ns i 0)) (bs i) (f .0) (f .1) (numbered-at count ns i m h)
+      ∙ ready-by-tally n l (ts .counted) t row (ts .tallied) (named (getD ds i 0) (getD ns i 0)) (bs i) (f .0) (f .1)
 
   -- b is the slot of the one to execute of the first i, and low its desk, or the count and a desk that none is above.
   pub record Lowering (b low i : ℕ) : Type 0 where
@@ -80,21 +78,21 @@ module _ (n count : ℕ) (ds ns ss t : List ℕ) where
     chosen = λ l bs ts. slot-none count (markAt n ds ns bs ss) count (omega arith);
   }
 
-  module _ (b low i b′ low′ : ℕ) (row : List ℕ) (r : Bool) (w : Lowering b low i) (h : i < count) (d : Named n count ds) (m : Numbered count ns) (c : (j : ℕ) → j < n → getD row j 0 ≡ getD ss (i * n + j) 0)
-      (e : r ≡ (allWithin n row t && leb (getD ns i 0) (suc (getD t (getD ds i 0 - 1) 0)))) where
-    by : (x : Bool) → r ≡ x → (l : List Mark) (bs : ℕ → MarkBox) → TallyOf n l t → ready l (markAt n ds ns bs ss i) ≡ x
-    by x q l bs ts = ready-slot l bs row i ts d m h c ∙ sym e ∙ q
+  module _ (b low i b′ low′ : ℕ) (row : List ℕ) (r : ℕ) (w : Lowering b low i) (h : i < count) (d : Named n count ds) (c : (j : ℕ) → j < n → getD row j 0 ≡ getD ss (i * n + j) 0)
+      (e : r ≡ missingBy n t (getD ds i 0) (getD ns i 0) row) where
+    by : (x : Bool) → eqb r 0 ≡ x → (l : List Mark) (bs : ℕ → MarkBox) → TallyOf n l t → ready l (markAt n ds ns bs ss i) ≡ x
+    by x q l bs ts = ready-slot l bs row i ts d h c ∙ ap (λ (k : ℕ). eqb k 0) (sym e) ∙ q
 
-    pub lowering-taken : r ≡ true → getD ds i 0 ≤ low → b′ ≡ i → low′ ≡ getD ds i 0 → Lowering b′ low′ (i + 1)
+    pub lowering-taken : r ≡ 0 → getD ds i 0 ≤ low → b′ ≡ i → low′ ≡ getD ds i 0 → Lowering b′ low′ (i + 1)
     lowering-taken q a p s = rw (p, s) (record {
       turns = omega arith;
       few = omega arith;
       desk = inr (h, refl);
-      chosen = λ l bs ts. chosen-taken count (markAt n ds ns bs ss) (ready l) b i (w .chosen l bs ts) h (by true q l bs ts)
+      chosen = λ l bs ts. chosen-taken count (markAt n ds ns bs ss) (ready l) b i (w .chosen l bs ts) h (by true (eq-eqb r 0 q) l bs ts)
           (⊎-elim (λ v. inl (v .0)) (λ v. let y = v .1 in inr (v .0, omega arith)) (w .desk));
     })
 
-    pub lowering-kept : r ≡ true → low < getD ds i 0 → b′ ≡ b → low′ ≡ low → Lowering b′ low′ (i + 1)
+    pub lowering-kept : r ≡ 0 → low < getD ds i 0 → b′ ≡ b → low′ ≡ low → Lowering b′ low′ (i + 1)
     lowering-kept q a p s =
         let f = named-at n count ds i d h in
         rw (p, s) (record {
@@ -102,15 +100,15 @@ module _ (n count : ℕ) (ds ns ss t : List ℕ) where
           few = w .few;
           desk = w .desk;
           chosen = λ l bs ts. ⊎-elim (λ v. let x = v .1 in let y = f .1 in let z : ⊥ = omega arith in absurd z)
-              (λ v. let y = v .1 in chosen-kept count (markAt n ds ns bs ss) (ready l) b i (w .chosen l bs ts) (by true q l bs ts) (v .0) (omega arith)) (w .desk);
+              (λ v. let y = v .1 in chosen-kept count (markAt n ds ns bs ss) (ready l) b i (w .chosen l bs ts) (by true (eq-eqb r 0 q) l bs ts) (v .0) (omega arith)) (w .desk);
         })
 
-    pub lowering-passed : r ≡ false → b′ ≡ b → low′ ≡ low → Lowering b′ low′ (i + 1)
+    pub lowering-passed : (r ≡ 0 → ⊥) → b′ ≡ b → low′ ≡ low → Lowering b′ low′ (i + 1)
     lowering-passed q p s = rw (p, s) (record {
       turns = omega arith;
       few = w .few;
       desk = w .desk;
-      chosen = λ l bs ts. chosen-passed count (markAt n ds ns bs ss) (ready l) b i (w .chosen l bs ts) (by false q l bs ts);
+      chosen = λ l bs ts. chosen-passed count (markAt n ds ns bs ss) (ready l) b i (w .chosen l bs ts) (by false (ne-eqb r 0 q) l bs ts);
     })
 
   pub lowering-all : (b low i : ℕ) → Lowering b low i → count ≤ i → (l : List Mark) (bs : ℕ → MarkBox) → TallyOf n l t → placeAt n count b ds ns bs ss ≡ lowest markId (ready l) (view n count ds ns bs ss)

@@ -10,7 +10,6 @@ use Rattle.causality.specs.State.{Mark}
 use Rattle.causality.proofs.Fit.{Fit}
 use Rattle.rows.specs.View.{Named, markAt, placeAt, view}
 use Rattle.rows.proofs.Arrays.{view-at}
-use Rattle.waiting.specs.Queue.{Numbered}
 
 module _ (n count : ℕ) (ds ns : List ℕ) (bs : ℕ → MarkBox) (ss : List ℕ) where
   -- A slot below the count has the mark, and the count has none.
@@ -22,11 +21,7 @@ module _ (n count : ℕ) (ds ns : List ℕ) (bs : ℕ → MarkBox) (ss : List �
   unfolding placeAt
   slot-missed p o e h = sym e ∙ rw (le-ltb p count h, placeAt) refl
 
-  -- Marks that fit are of desks from 1 to n, and numbered from 1.
+  -- Marks that fit are of desks from 1 to n.
   pub fit-named : All (Fit n) (view n count ds ns bs ss) → Named n count ds
   unfolding Named
   fit-named a p l = let f = view-at n (Fit n) count ds ns bs ss a p l in (f .range .low, f .range .high)
-
-  pub fit-numbered : All (Fit n) (view n count ds ns bs ss) → Numbered count ns
-  unfolding Numbered
-  fit-numbered a p l = let f = view-at n (Fit n) count ds ns bs ss a p l in f .range .first

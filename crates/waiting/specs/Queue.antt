@@ -47,10 +47,6 @@ left count ds ns bs ss = here (count .exit) (ds .exit) (ns .exit) (bs .exit) (ss
 abbrev pub named : ℕ → ℕ → MarkId
 named d n = record { desk = d; number = n }
 
--- Each of the first so many numbers is 1 or more.
-unfoldable pub Numbered : ℕ → List ℕ → Type 0
-Numbered count ns = (p : ℕ) → p < count → 1 ≤ getD ns p 0
-
 -- The numbers at from to below to came from w further on; the others are as they were.
 pub record Closed (w : ℕ) (before after : List ℕ) (from to : ℕ) : Type 0 where
   pub long : length after ≡ length before

@@ -5,7 +5,7 @@ ghost use Prim.Native.Nat.{_+_, _≤_, _<_};
 ghost use lib.ListN.{length};
 ghost use Rattle.causality.specs.Marks.{waitingPlaces};
 ghost use Rattle.rows.specs.View.{width, Named};
-ghost use Rattle.waiting.specs.Queue.{Queued, waitingIn, here, found, left, Numbered, Closed, Pushed, Removed, FoundAt, LowestAt};
+ghost use Rattle.waiting.specs.Queue.{Queued, waitingIn, here, found, left, Closed, Pushed, Removed, FoundAt, LowestAt};
 use frame::MarkBox;
 use frame::Number;
 use rows::BOX;
@@ -153,7 +153,7 @@ pub fn lowest_ready<'a>(
     count: usize,
     tally: [u16; WIDTH],
 ) -> usize
-    requires { ⌜ (count ≤ waitingPlaces) × Named width count (now desks) × Numbered count (now numbers) ⌝ }
+    requires { ⌜ (count ≤ waitingPlaces) × Named width count (now desks) ⌝ }
     ensures { λ r. ⌜ LowestAt tally count (now (desks .entry)) (now (numbers .entry)) (now (stamps .entry)) r ⌝ }
 {
     let mut best = count;
@@ -162,7 +162,7 @@ pub fn lowest_ready<'a>(
     while i < count {
         let desk = desks[i];
         let row = rows::row_at(stamps, i);
-        if rows::ready(tally, desk, numbers[i], row) {
+        if rows::missing(tally, desk, numbers[i], row) == 0 {
             if desk <= lowest {
                 best = i;
                 lowest = desk;

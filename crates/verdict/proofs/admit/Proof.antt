@@ -1,6 +1,5 @@
 -- `admit` meets its contract: each verdict by the tests that led to it (Judging).
 use mathlib.Core.List.{List}
-use mathlib.Core.Path.{_∙_, sym}
 use Prim.Native.Nat.{ℕ}
 use native.Mathlib.Omega.{arith}
 use borrow.Author.Needs.{needs}
@@ -8,7 +7,7 @@ use Rattle.frame.specs.declared.MarkBox.{MarkBox}
 use Rattle.causality.specs.State.{Mark, State}
 use Rattle.rows.specs.View.{view, width}
 use Rattle.rows.proofs.Arrays.{view-length}
-use Rattle.verdict.proofs.Judging.{admit-crowded, admit-false, admit-full, admit-holds, admit-runs, ready-test}
+use Rattle.verdict.proofs.Judging.{admit-crowded, admit-false, admit-full, admit-holds, admit-runs}
 use Rattle.verdict.proofs.admit.Statement.{statement}
 use Rattle.verdict.proofs.admit.Tie as tie
 
@@ -32,29 +31,29 @@ returns-2 : tie.Need-returns-2
 returns-2 c = λ own bs ws many sound ts.
     let s = c .before .before .before .before .before .before .before in
     let v = view-length width (s .args .count) (s .args .desks .now) (s .args .numbers .now) bs (s .args .stamps .now) in
-    let r = ready-test (state s own bs ws) (s .args .h) (s .args .tally) (s .args .count) (s .args .waiting) v many sound (s .pre .2) ts ∙ sym (c .before .before .before .ready .ensures) ∙ c .before .before .if2 .taken in
-    admit-false (state s own bs ws) (s .args .h) (s .args .tally) (s .args .count) (s .args .waiting) v many sound (s .pre .2) ts (c .before .before .before .before .if1 .left) r (sym (c .before .is-false .ensures bs sound (rw r tt)) ∙ c .if3 .taken)
+    admit-false (state s own bs ws) (s .args .h) (s .args .tally) (s .args .count) (s .args .waiting) v many sound (s .pre .2) ts (c .before .before .before .before .if1 .left)
+    _ (c .before .before .before .missing .ensures) (c .before .before .if2 .taken) _ (c .before .is-false .ensures bs sound) (c .if3 .taken)
 
 returns-3 : tie.Need-returns-3
 returns-3 c = λ own bs ws many sound ts.
     let s = c .before .before .before .before .before .before .before in
     let v = view-length width (s .args .count) (s .args .desks .now) (s .args .numbers .now) bs (s .args .stamps .now) in
-    let r = ready-test (state s own bs ws) (s .args .h) (s .args .tally) (s .args .count) (s .args .waiting) v many sound (s .pre .2) ts ∙ sym (c .before .before .before .ready .ensures) ∙ c .before .before .if2 .taken in
-    admit-runs (state s own bs ws) (s .args .h) (s .args .tally) (s .args .count) (s .args .waiting) v many sound (s .pre .2) ts (c .before .before .before .before .if1 .left) r (sym (c .before .is-false .ensures bs sound (rw r tt)) ∙ c .if3 .left)
+    admit-runs (state s own bs ws) (s .args .h) (s .args .tally) (s .args .count) (s .args .waiting) v many sound (s .pre .2) ts (c .before .before .before .before .if1 .left)
+    _ (c .before .before .before .missing .ensures) (c .before .before .if2 .taken) _ (c .before .is-false .ensures bs sound) (c .if3 .left)
 
 returns-4 : tie.Need-returns-4
 returns-4 c = λ own bs ws many sound ts.
     let s = c .before .before .before .before .before .before in
     let v = view-length width (s .args .count) (s .args .desks .now) (s .args .numbers .now) bs (s .args .stamps .now) in
-    let r = ready-test (state s own bs ws) (s .args .h) (s .args .tally) (s .args .count) (s .args .waiting) v many sound (s .pre .2) ts ∙ sym (c .before .before .ready .ensures) ∙ c .before .if2 .left in
-    admit-crowded (state s own bs ws) (s .args .h) (s .args .tally) (s .args .count) (s .args .waiting) v many sound (s .pre .2) ts (c .before .before .before .if1 .left) r (c .if4 .taken)
+    admit-crowded (state s own bs ws) (s .args .h) (s .args .tally) (s .args .count) (s .args .waiting) v many sound (s .pre .2) ts (c .before .before .before .if1 .left)
+    _ (c .before .before .missing .ensures) (c .before .if2 .left) (c .if4 .taken)
 
 returns-5 : tie.Need-returns-5
 returns-5 c = λ own bs ws many sound ts.
     let s = c .before .before .before .before .before .before in
     let v = view-length width (s .args .count) (s .args .desks .now) (s .args .numbers .now) bs (s .args .stamps .now) in
-    let r = ready-test (state s own bs ws) (s .args .h) (s .args .tally) (s .args .count) (s .args .waiting) v many sound (s .pre .2) ts ∙ sym (c .before .before .ready .ensures) ∙ c .before .if2 .left in
-    admit-holds (state s own bs ws) (s .args .h) (s .args .tally) (s .args .count) (s .args .waiting) v many sound (s .pre .2) ts (c .before .before .before .if1 .left) r (c .if4 .left)
+    admit-holds (state s own bs ws) (s .args .h) (s .args .tally) (s .args .count) (s .args .waiting) v many sound (s .pre .2) ts (c .before .before .before .if1 .left)
+    _ (c .before .before .missing .ensures) (c .before .if2 .left) (c .if4 .left)
 
 pub admit-spec : {M : Type 1} → statement M
 admit-spec = tie.close (tie.spec add-if1 returns (λ c κs. search needs) is-false-requires returns-2 returns-3 returns-4 returns-5)

@@ -17,8 +17,8 @@ abbrev μ-loop : tie.MeasureT-loop
 loop-holds : tie.Need-loop-holds Inv-loop μ-loop
 loop-holds c = lowering-none _ _ _ _ _ _ 255 (search needs)
 
-ready-requires : tie.Need-ready-requires Inv-loop μ-loop
-ready-requires c κs =
+missing-requires : tie.Need-missing-requires Inv-loop μ-loop
+missing-requires c κs =
     let b = c .before .before .before .before .before in
     let s = b .before in
     named-at width _ _ (b .loop .i) (s .pre .1) (search needs)
@@ -27,11 +27,11 @@ loop-again : tie.Need-loop-again Inv-loop μ-loop
 loop-again c =
     let b = c .before .before .before .before .before .before .before in
     let s = b .before in
-    let e = c .before .ready .ensures in
+    let e = c .before .missing .ensures in
     let g = c .before .before .before .row-at in
-    ⊎-elim (λ w. lowering-taken _ _ _ _ _ _ _ _ _ _ _ (g .result) _ (b .loop .inv) (search needs) (s .pre .1) (s .pre .2) (g .ensures) e (w .0 .taken) (w .1 .taken) (w .2) (w .3))
-    (⊎-elim (λ w. lowering-kept _ _ _ _ _ _ _ _ _ _ _ (g .result) _ (b .loop .inv) (search needs) (s .pre .1) (s .pre .2) (g .ensures) e (w .0 .taken) (w .1 .left) (w .2) (w .3))
-    (λ w. lowering-passed _ _ _ _ _ _ _ _ _ _ _ (g .result) _ (b .loop .inv) (search needs) (s .pre .1) (s .pre .2) (g .ensures) e (w .0 .left) (w .1) (w .2))) (c .if1 .came)
+    ⊎-elim (λ w. lowering-taken _ _ _ _ _ _ _ _ _ _ _ (g .result) _ (b .loop .inv) (search needs) (s .pre .1) (g .ensures) e (w .0 .taken) (w .1 .taken) (w .2) (w .3))
+    (⊎-elim (λ w. lowering-kept _ _ _ _ _ _ _ _ _ _ _ (g .result) _ (b .loop .inv) (search needs) (s .pre .1) (g .ensures) e (w .0 .taken) (w .1 .left) (w .2) (w .3))
+    (λ w. lowering-passed _ _ _ _ _ _ _ _ _ _ _ (g .result) _ (b .loop .inv) (search needs) (s .pre .1) (g .ensures) e (w .0 .left) (w .1) (w .2))) (c .if1 .came)
 
 returns : tie.Need-returns Inv-loop μ-loop
 returns c = let w = c .before .loop .inv in record { few = w .few; mark = lowering-all width _ _ _ _ _ _ _ _ w (search needs) }
@@ -47,7 +47,7 @@ lowest-ready-spec =
     (λ c κs. search needs)
     (λ c. search needs)
     (λ c. search needs)
-    ready-requires
+    missing-requires
     (λ c. search needs)
     (λ c. search needs)
     loop-again

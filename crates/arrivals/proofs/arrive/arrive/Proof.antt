@@ -29,21 +29,21 @@ judged g = g .judge .ensures
 
 push-requires : tie.Need-push-requires
 push-requires c κs =
-    let g = c .before .before .before .before .before .before .before in
+    let g = c .before .before .before .before .before .before .before .before in
     let s = g .before .before .before .before .before .before .before .before .before .before .before .before .before .before in
-    (s .pre .0 .queued, holds-room (s .args .own) (marks s) (queue s) (s .pre .0) (s .args .h) (sym (ap verdictOf (c .before .before .before .before .before .enum-told2 .given .1)) ∙ judged g))
+    (s .pre .0 .queued, holds-room (s .args .own) (marks s) (queue s) (s .pre .0) (s .args .h) _ (sym (ap verdictOf (c .before .before .before .before .before .before .short .given .1)) ∙ judged g))
 
 execute-requires : tie.Need-execute-requires
 execute-requires c κs =
     let g = c .before .before .before .before .before .before .before .before .before .before .before in
     let s = g .before .before .before .before .before .before .before .before .before .before .before .before .before .before in
-    runs-takes (s .args .own) (marks s) (queue s) (s .pre .0) (s .args .h) (s .pre .1) (sym (ap verdictOf (c .before .before .before .before .before .before .before .before .before .enum-told3 .given .1)) ∙ judged g)
+    runs-takes (s .args .own) (marks s) (queue s) (s .pre .0) (s .args .h) (s .pre .1) (sym (ap verdictOf (c .before .before .before .before .before .before .before .before .before .enum-told2 .given .1)) ∙ judged g)
 
 release-requires : tie.Need-release-requires
 release-requires c κs =
     let g = c .before .before .before .before .before .before .before .before .before .before .before .before .before .before .before .before .before .before .before .before .before .before .before .before .before .before in
     let s = g .before .before .before .before .before .before .before .before .before .before .before .before .before .before in
-    runs-midway (s .args .own) (marks s) (queue s) (s .pre .0) (s .args .h) (s .pre .1) (sym (ap verdictOf (c .before .before .before .before .before .before .before .before .before .before .before .before .before .before .before .before .before .before .before .before .before .before .before .before .enum-told3 .given .1)) ∙ judged g) _ (c .before .before .before .before .before .before .before .before .before .before .before .before .before .before .execute .ensures)
+    runs-midway (s .args .own) (marks s) (queue s) (s .pre .0) (s .args .h) (s .pre .1) (sym (ap verdictOf (c .before .before .before .before .before .before .before .before .before .before .before .before .before .before .before .before .before .before .before .before .before .before .before .before .enum-told2 .given .1)) ∙ judged g) _ (c .before .before .before .before .before .before .before .before .before .before .before .before .before .before .execute .ensures)
 
 returns : tie.Need-returns
 returns c =
@@ -59,15 +59,15 @@ returns-2 c =
 
 returns-3 : tie.Need-returns-3
 returns-3 c =
-    let g = c .before .before .before .before .before .before .before .before in
+    let g = c .before .before .before .before .before .before .before .before .before in
     let s = g .before .before .before .before .before .before .before .before .before .before .before .before .before .before in
-    promise-holds (s .args .own) (marks s) (queue s) (s .pre .0) (s .args .h) _ _ (sym (ap verdictOf (c .before .before .before .before .before .before .enum-told2 .given .1)) ∙ judged g) (c .push .ensures) refl
+    promise-holds (s .args .own) (marks s) (queue s) (s .pre .0) (s .args .h) _ _ _ (sym (ap verdictOf (c .before .before .before .before .before .before .before .short .given .1)) ∙ judged g) (c .push .ensures) refl
 
 returns-4 : tie.Need-returns-4
 returns-4 c =
     let g = c .before .before .before .before .before .before .before .before .before .before .before .before .before .before .before .before .before .before .before .before .before .before .before .before .before .before .before in
     let s = g .before .before .before .before .before .before .before .before .before .before .before .before .before .before in
-    promise-runs (s .args .own) (marks s) (queue s) (s .pre .0) (s .args .h) (s .pre .1) (sym (ap verdictOf (c .before .before .before .before .before .before .before .before .before .before .before .before .before .before .before .before .before .before .before .before .before .before .before .before .before .enum-told3 .given .1)) ∙ judged g) _ (c .before .before .before .before .before .before .before .before .before .before .before .before .before .before .before .execute .ensures) _ _ (c .release .result) (c .release .ensures)
+    promise-runs (s .args .own) (marks s) (queue s) (s .pre .0) (s .args .h) (s .pre .1) (sym (ap verdictOf (c .before .before .before .before .before .before .before .before .before .before .before .before .before .before .before .before .before .before .before .before .before .before .before .before .before .enum-told2 .given .1)) ∙ judged g) _ (c .before .before .before .before .before .before .before .before .before .before .before .before .before .before .before .execute .ensures) _ _ (c .release .result) (c .release .ensures)
 
 pub arrive-spec : {M : Type 1} → statement M
 arrive-spec =

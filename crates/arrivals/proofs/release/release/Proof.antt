@@ -8,7 +8,7 @@ use Rattle.causality.specs.Marks.{waitingPlaces}
 use Rattle.executed.specs.Arrays.{Arrays, arrays}
 use Rattle.waiting.specs.Queue.{queueOf}
 use Rattle.waiting.specs.declared.Waiting.{Waiting}
-use Rattle.arrivals.proofs.Turning.{Releases, counts-dropped, counts-executed, held-named, held-numbered, releases-again, releases-ends, releases-few, releases-starts, releases-turns}
+use Rattle.arrivals.proofs.Turning.{Releases, counts-dropped, counts-executed, held-named, releases-again, releases-ends, releases-few, releases-starts, releases-turns}
 use Rattle.arrivals.proofs.release.release.Statement.{statement}
 use Rattle.arrivals.proofs.release.release.Tie as tie
 
@@ -20,7 +20,7 @@ abbrev μ-loop : tie.MeasureT-loop
 μ-loop count₀ desks₀ numbers₀ boxes₀ stamps₀ tally₀ heads₀ last₀ before₀ waiting₀ wdesks₀ wnumbers₀ wboxes₀ wstamps₀ executed₀ dropped₀ held₀ i₀ count desks numbers boxes stamps tally heads last before waiting wdesks wnumbers wboxes wstamps executed dropped held i = waiting
 
 lowest-ready-requires : tie.Need-lowest-ready-requires Inv-loop μ-loop
-lowest-ready-requires c κs = let m = c .before .before .before .before .before .pre in (m .queued .few, held-named _ _ m, held-numbered _ _ m)
+lowest-ready-requires c κs = let m = c .before .before .before .before .before .pre in (m .queued .few, held-named _ _ m)
 
 loop-holds : tie.Need-loop-holds Inv-loop μ-loop
 loop-holds c = (releases-starts _ _ (c .lowest-ready .result) (c .before .before .before .before .before .before .pre) (c .lowest-ready .ensures), refl)
@@ -42,7 +42,7 @@ add-dropped : tie.Need-add-dropped Inv-loop μ-loop
 add-dropped c = omega (arith, few (c .before .before .before .before .before .before .before .before .before .before .before .before .before .before .before .before))
 
 lowest-ready-requires-2 : tie.Need-lowest-ready-requires-2 Inv-loop μ-loop
-lowest-ready-requires-2 c κs = let m = c .before .before .before .before .before .before .turn .ensures .midway in (m .queued .few, held-named _ _ m, held-numbered _ _ m)
+lowest-ready-requires-2 c κs = let m = c .before .before .before .before .before .before .turn .ensures .midway in (m .queued .few, held-named _ _ m)
 
 loop-less : tie.Need-loop-less Inv-loop μ-loop
 loop-less c = omega (arith, c .before .before .before .before .before .before .before .turn .ensures .one)

@@ -1,0 +1,164 @@
+-- The missing marks by a row and the tally: counts above counted turn by turn, and what they say of the definitions. n: how many desks. Assumes nothing.
+use Prim.Native.Nat.{_+_, _-_, _<_, _≤_, suc, zero, ℕ}
+use borrow.Author.Tests.{eq-eqb, le-ltb, lt-ltb, ltb-false, ltb-true, ne-eqb}
+use lib.Dec.{T, T-not, eqb, eqb→eq, leb, leb→le, ltb, lt→ltb, ltb→lt, nleb→lt, not-T}
+use lib.ListN.{getD, getD-replicate, length, replicate}
+use mathlib.Core.Bool.{Bool, _&&_, and-false, cond, false, not, true}
+use mathlib.Core.List.{List, [], _++_, _∷_}
+use mathlib.Core.Logic.{inl, inr}
+use mathlib.Core.Path.{_∙_, _≡_, ap, refl, sym}
+use native.Mathlib.Numerals.{add-one, one-add, sub-one}
+use native.Mathlib.Omega.{arith}
+use Rattle.frame.specs.declared.MarkBox.{MarkBox}
+use Rattle.frame.specs.Mark.{MarkId}
+use Rattle.causality.specs.Marks.{has, keep, tally}
+use Rattle.causality.specs.State.{Mark, ids, lacksPrevious, missing, missingEntries, previous, ready}
+use Rattle.causality.proofs.Logic.{and-fst, and-intro, and-snd, bool-ext, eq→T, split}
+use Rattle.causality.proofs.Missing.{ready-missing}
+use Rattle.causality.proofs.Past.{Counted, prefix-has, prefix-le}
+use Rattle.causality.proofs.RowLaws.{entriesFrom, entriesOfRow, show, shown}
+use Rattle.rows.specs.View.{aboveIn, namesIn, rowFn}
+use Rattle.rows.specs.Steps.{missingBy}
+use Rattle.rows.proofs.RowBytes.{entries-more, entryAt, entryIf}
+
+-- COUNTS ABOVE
+
+pub above-le : (k : ℕ) (r t : List ℕ) → aboveIn k r t ≤ k
+unfolding aboveIn
+above-le zero r t = omega arith
+above-le (suc k) r t = go (ltb (getD t k 0) (getD r k 0)) (above-le k r t)
+  where
+    x : ℕ
+    x = aboveIn k r t
+
+    go : (b : Bool) → x ≤ k → (elim b as (λ z. ℕ) [ true ↦ suc x | false ↦ x ]) ≤ suc k
+    go true h = omega arith
+    go false h = omega arith
+
+pub above-start : (r t : List ℕ) → 0 ≡ aboveIn 0 r t
+unfolding aboveIn
+above-start r t = refl
+
+pub above-more : (j m : ℕ) (r t : List ℕ) → m ≡ aboveIn j r t → getD t j 0 < getD r j 0 → m + 1 ≡ aboveIn (j + 1) r t
+unfolding aboveIn
+above-more j m r t e h = rw (add-one j, add-one m, lt-ltb (getD t j 0) (getD r j 0) h, aboveIn) (ap suc e)
+
+pub above-kept : (j m : ℕ) (r t : List ℕ) → m ≡ aboveIn j r t → getD r j 0 ≤ getD t j 0 → m ≡ aboveIn (j + 1) r t
+unfolding aboveIn
+above-kept j m r t e h = rw (add-one j, le-ltb (getD t j 0) (getD r j 0) h, aboveIn) e
+
+-- A row names the marks at which it is above 0.
+pub above-names : (n k : ℕ) (r : List ℕ) → k ≤ n → aboveIn k r (replicate n 0) ≡ namesIn k r
+unfolding aboveIn namesIn
+above-names n zero r h = refl
+above-names n (suc k) r h =
+    let e : _≡_ {A = ℕ} (getD (replicate n 0) k 0) 0 = getD-replicate n k 0 0 h in
+    let t = above-names n k r (omega arith) in
+    λ i. elim (ltb (e i) (getD r k 0)) [ true ↦ suc (t i) | false ↦ t i ]
+
+-- MISSING MARKS
+
+-- The previous mark is missing too, or an entry, or executed.
+module _ (n : ℕ) (t : List ℕ) (d number : ℕ) (row : List ℕ) (x : ℕ) (e : x ≡ aboveIn n row t) where
+  pub missing-more : getD t (d - 1) 0 + 1 < number → (getD row (d - 1) 0 ≡ number - 1 → ⊥) → x + 1 ≡ missingBy n t d number row
+  missing-more p q = rw (lt-ltb (suc (getD t (d - 1) 0)) number (omega arith), ne-eqb (getD row (d - 1) 0) (number - 1) q) (omega arith)
+
+  pub missing-entry : getD row (d - 1) 0 ≡ number - 1 → x ≡ missingBy n t d number row
+  missing-entry q = rw (eq-eqb (getD row (d - 1) 0) (number - 1) q, and-false) (omega arith)
+
+  pub missing-none : number ≤ getD t (d - 1) 0 + 1 → x ≡ missingBy n t d number row
+  missing-none p = rw (le-ltb (suc (getD t (d - 1) 0)) number (omega arith)) (omega arith)
+
+-- How many pass of two lists.
+keep-both : (p : MarkId → Bool) (xs ys : List MarkId) → length (keep p (xs ++ ys)) ≡ length (keep p xs) + length (keep p ys)
+keep-both p [] ys = omega arith
+keep-both p (x ∷ xs) ys = go (p x) (keep-both p xs ys)
+  where
+    go : (b : Bool) → length (keep p (xs ++ ys)) ≡ length (keep p xs) + length (keep p ys)
+        → length (cond b (x ∷ keep p (xs ++ ys)) (keep p (xs ++ ys))) ≡ length (cond b (x ∷ keep p xs) (keep p xs)) + length (keep p ys)
+    go true ih = omega arith
+    go false ih = ih
+
+module _ (n : ℕ) (l : List Mark) (c : Counted (ids l)) (t row : List ℕ) (f : (d : ℕ) → 1 ≤ d → d ≤ n → rowFn t d ≡ tally d (ids l)) where
+  abbrev absent : MarkId → Bool
+  absent e = not (has e (ids l))
+
+  -- A mark is not executed where its number is above its desk's count.
+  absent-above : (e : MarkId) → 1 ≤ e .desk → e .desk ≤ n → 1 ≤ e .number → absent e ≡ ltb (rowFn t (e .desk)) (e .number)
+  absent-above e lo hi p = bool-ext (absent e) (ltb (rowFn t (e .desk)) (e .number))
+      (λ u. elim (split (leb (e .number) (rowFn t (e .desk)))) [
+        | inl v ↦ let g = leb→le (e .number) (rowFn t (e .desk)) v in absurd (T-not (has e (ids l)) u (prefix-has (ids l) c e p (let x = f (e .desk) lo hi in omega arith)))
+        | inr v ↦ lt→ltb (rowFn t (e .desk)) (e .number) (nleb→lt (e .number) (rowFn t (e .desk)) v)
+      ])
+      (λ u. not-T (has e (ids l)) (λ v. let g = (prefix-le (ids l) c e v) .1 in let x = f (e .desk) lo hi in let y = ltb→lt (rowFn t (e .desk)) (e .number) u in omega arith))
+
+  -- Of the entries of a row those that are not executed are the counts above the tally.
+  entries-above : (k : ℕ) → k ≤ n → length (keep absent (entriesFrom (rowFn row) 1 k)) ≡ aboveIn k row t
+  unfolding aboveIn
+  entries-above zero h = refl
+  entries-above (suc k) h =
+      ap (λ (es : List MarkId). length (keep absent es)) (entries-more (rowFn row) 1 k)
+      ∙ keep-both absent (entriesFrom (rowFn row) 1 k) (entryAt (rowFn row) (1 + k))
+      ∙ rw (one-add k, sub-one (suc k)) (go (ltb 0 (getD row k 0)) refl (ltb (getD t k 0) (getD row k 0)) refl (entries-above k (omega arith)))
+    where
+      e : MarkId
+      e = record { desk = suc k; number = getD row k 0 }
+
+      go : (a : Bool) → ltb 0 (getD row k 0) ≡ a → (b : Bool) → ltb (getD t k 0) (getD row k 0) ≡ b → length (keep absent (entriesFrom (rowFn row) 1 k)) ≡ aboveIn k row t
+          → length (keep absent (entriesFrom (rowFn row) 1 k)) + length (keep absent (entryIf a (suc k) (getD row k 0)))
+          ≡ elim b as (λ z. ℕ) [ true ↦ suc (aboveIn k row t) | false ↦ aboveIn k row t ]
+      go true p b q ih = rw (here ∙ q) (by b)
+        where
+          here : absent e ≡ ltb (getD t k 0) (getD row k 0)
+          here = rw (sub-one (suc k)) at (absent-above e (omega arith) h (ltb-true 0 (getD row k 0) p))
+
+          by : (b : Bool) → length (keep absent (entriesFrom (rowFn row) 1 k)) + length (cond b (e ∷ []) []) ≡ elim b as (λ z. ℕ) [ true ↦ suc (aboveIn k row t) | false ↦ aboveIn k row t ]
+          by true = omega arith
+          by false = omega arith
+      go false p true q ih = let x = ltb-false 0 (getD row k 0) p in let y = ltb-true (getD t k 0) (getD row k 0) q in omega arith
+      go false p false q ih = omega arith
+
+  module _ (i : MarkId) (b : MarkBox) (lo : 1 ≤ i .desk) (hi : i .desk ≤ n) where
+    abbrev mark : Mark
+    mark = record { id = i; extent = b; stamp = entriesOfRow n (rowFn row) }
+
+    lacks-by-tally : lacksPrevious l mark ≡ (ltb (suc (rowFn t (i .desk))) (i .number) && not (eqb (rowFn row (i .desk)) (i .number - 1)))
+    unfolding lacksPrevious previous
+    lacks-by-tally = bool-ext (ltb 1 (i .number) && (absent pr && not (has pr es))) (ltb (suc (rowFn t (i .desk))) (i .number) && not (eqb (rowFn row (i .desk)) (i .number - 1))) there back
+      where
+        es : List MarkId
+        es = entriesOfRow n (rowFn row)
+
+        pr : MarkId
+        pr = record { desk = i .desk; number = i .number - 1 }
+
+        -- The previous mark is not executed, and no entry, by its desk's counts.
+        above : 1 < i .number → absent pr ≡ ltb (rowFn t (i .desk)) (i .number - 1)
+        above p = absent-above pr lo hi (omega arith)
+
+        entry : 1 < i .number → has pr es ≡ eqb (rowFn row (i .desk)) (i .number - 1)
+        entry p = bool-ext (has pr es) (eqb (rowFn row (i .desk)) (i .number - 1))
+            (λ u. eq→T (eqb (rowFn row (i .desk)) (i .number - 1)) (eq-eqb (rowFn row (i .desk)) (i .number - 1) (sym (shown (rowFn row) 1 n pr u .value))))
+            (λ u. show (rowFn row) 1 n pr (record { low = lo; high = omega arith; value = sym (eqb→eq (rowFn row (i .desk)) (i .number - 1) u); pos = omega arith }))
+
+        there : T (ltb 1 (i .number) && (absent pr && not (has pr es))) → T (ltb (suc (rowFn t (i .desk))) (i .number) && not (eqb (rowFn row (i .desk)) (i .number - 1)))
+        there u =
+            let p = ltb→lt 1 (i .number) (and-fst (ltb 1 (i .number)) (absent pr && not (has pr es)) u) in
+            let v = and-snd (ltb 1 (i .number)) (absent pr && not (has pr es)) u in
+            let x = ltb→lt (rowFn t (i .desk)) (i .number - 1) (rw (above p) at (and-fst (absent pr) (not (has pr es)) v)) in
+            and-intro (ltb (suc (rowFn t (i .desk))) (i .number)) (not (eqb (rowFn row (i .desk)) (i .number - 1))) (lt→ltb (suc (rowFn t (i .desk))) (i .number) (omega arith)) (rw (entry p) at (and-snd (absent pr) (not (has pr es)) v))
+
+        back : T (ltb (suc (rowFn t (i .desk))) (i .number) && not (eqb (rowFn row (i .desk)) (i .number - 1))) → T (ltb 1 (i .number) && (absent pr && not (has pr es)))
+        back u =
+            let x = ltb→lt (suc (rowFn t (i .desk))) (i .number) (and-fst (ltb (suc (rowFn t (i .desk))) (i .number)) (not (eqb (rowFn row (i .desk)) (i .number - 1))) u) in
+            let p : 1 < i .number = omega arith in
+            and-intro (ltb 1 (i .number)) (absent pr && not (has pr es)) (lt→ltb 1 (i .number) p)
+            (and-intro (absent pr) (not (has pr es)) (rw (above p) (lt→ltb (rowFn t (i .desk)) (i .number - 1) (omega arith)))
+            (rw (entry p) (and-snd (ltb (suc (rowFn t (i .desk))) (i .number)) (not (eqb (rowFn row (i .desk)) (i .number - 1))) u)))
+
+    pub missing-by-tally : missing l mark ≡ missingBy n t (i .desk) (i .number) row
+    unfolding missing missingEntries
+    missing-by-tally = let e = entries-above n (omega arith) in let g = lacks-by-tally in λ k. e k + cond (g k) 1 0
+
+    pub ready-by-tally : ready l mark ≡ eqb (missingBy n t (i .desk) (i .number) row) 0
+    ready-by-tally = ready-missing l mark ∙ ap (λ (k : ℕ). eqb k 0) missing-by-tally

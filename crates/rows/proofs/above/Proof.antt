@@ -1,0 +1,47 @@
+-- `above` meets its contract. Invariant: n of the counts passed are above those of the other row.
+use mathlib.Core.Logic.{⊎-elim}
+use mathlib.Core.Path.{_≡_, _∙_}
+use Prim.Native.Nat.{_≤_, _-_}
+use Rattle.rows.specs.View.{aboveIn, width}
+use Rattle.rows.proofs.MissingLaws.{above-kept, above-le, above-more, above-start}
+use borrow.Author.Needs.{needs}
+use native.Mathlib.Omega.{arith}
+use Rattle.rows.proofs.above.Statement.{statement}
+use Rattle.rows.proofs.above.Tie as tie
+
+abbrev Inv-loop : tie.InvT-loop
+Inv-loop row other n₀ j₀ n j = (j ≤ width) × (n ≡ aboveIn j row other)
+
+abbrev μ-loop : tie.MeasureT-loop
+μ-loop row other n₀ j₀ n j = width - j
+
+loop-holds : tie.Need-loop-holds Inv-loop μ-loop
+loop-holds c = (search needs, above-start _ _)
+
+add-n : tie.Need-add-n Inv-loop μ-loop
+add-n c = let l = c .before .before in omega (arith, above-le (l .loop .j) (l .before .args .t1) (l .before .args .t2))
+
+loop-again : tie.Need-loop-again Inv-loop μ-loop
+loop-again c =
+    let l = c .before .before .loop in
+    (search needs, ⊎-elim (λ w. w .1 ∙ above-more _ _ _ _ (l .inv .1) (w .0 .taken)) (λ w. w .1 ∙ above-kept _ _ _ _ (l .inv .1) (w .0 .left)) (c .if1 .came))
+
+returns : tie.Need-returns Inv-loop μ-loop
+returns c = let l = c .before .loop in let e : l .j ≡ width = omega arith in rw e at (l .inv .1)
+
+pub above-spec : {M : Type 1} → statement M
+above-spec =
+    tie.close
+    (tie.spec
+    Inv-loop
+    μ-loop
+    loop-holds
+    (λ c. search needs)
+    (λ c. search needs)
+    (λ c. search needs)
+    (λ c. search needs)
+    add-n
+    (λ c. search needs)
+    (λ c. search needs)
+    loop-again
+    returns)

@@ -1,0 +1,44 @@
+-- `missing` meets its contract: counts above the tally, and the previous mark by the tests of it (MissingLaws).
+use Prim.Native.Nat.{_-_}
+use lib.ListN.{getD}
+use mir.Syntax.{w16}
+use mir.Val.{Fits}
+use native.Mathlib.Omega.{arith}
+use borrow.Author.Needs.{needs}
+use Rattle.rows.specs.View.{width}
+use Rattle.rows.proofs.MissingLaws.{above-le, missing-entry, missing-more, missing-none}
+use Rattle.rows.proofs.missing.Statement.{statement}
+use Rattle.rows.proofs.missing.Tie as tie
+
+add-if1 : tie.Need-add-if1
+add-if1 c = let a = c .before .args in let f : Fits w16 (getD (a .t1) (a .desk - 1) 0) = search needs in omega arith
+
+add-result : tie.Need-add-result
+add-result c = let b = c .before .before in omega (arith, above-le width (b .before .args .t4) (b .before .args .t1))
+
+returns : tie.Need-returns
+returns c = let b = c .before .before in missing-more _ _ _ _ _ _ (b .above .ensures) (c .before .if1 .taken) (c .if2 .taken)
+
+returns-2 : tie.Need-returns-2
+returns-2 c = let b = c .before .before in missing-entry _ _ _ _ _ _ (b .above .ensures) (c .if2 .left)
+
+returns-3 : tie.Need-returns-3
+returns-3 c = missing-none _ _ _ _ _ _ (c .before .above .ensures) (c .if1 .left)
+
+pub missing-spec : {M : Type 1} → statement M
+missing-spec =
+    tie.close
+    (tie.spec
+    (λ c κs. search needs)
+    (λ c. search needs)
+    (λ c. search needs)
+    (λ c. search needs)
+    (λ c. search needs)
+    add-if1
+    (λ c. search needs)
+    (λ c. search needs)
+    (λ c. search needs)
+    add-result
+    returns
+    returns-2
+    returns-3)
