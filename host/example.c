@@ -61,12 +61,20 @@ static void refuse_mark(int d, uint32_t end, size_t lent, unsigned refusal)
     check(out[0] == 0x77, "a refused mark writes nothing");
 }
 
+/* Desk d receives a frame and sets its mark waiting, short of so many. */
+static void wait(int d, frame f, unsigned missing)
+{
+    kaungimewe_receive_answer a = kaungimewe_receive(&desk[d], f.bytes, f.size);
+    check(a.refusal == 0 && a.kind == KAUNGIMEWE_WAITS && a.missing == missing, "receive answers how many are missing");
+    check(a.executed == 0 && a.dropped == 0, "a mark that waits releases none");
+}
+
 /* Desk d receives a frame and answers so. */
 static void receive(int d, frame f, unsigned kind, unsigned executed, unsigned dropped)
 {
     remember(d);
     kaungimewe_receive_answer a = kaungimewe_receive(&desk[d], f.bytes, f.size);
-    check(a.refusal == 0 && a.kind == kind, "receive answers its kind");
+    check(a.refusal == 0 && a.kind == kind && a.missing == 0, "receive answers its kind");
     check(a.executed == executed && a.dropped == dropped, "receive answers how many were executed and dropped");
     if (kind == KAUNGIMEWE_KNOWN) {
         check_unchanged(d, "a known mark leaves the desk");
@@ -78,7 +86,7 @@ static void refuse(int d, frame f, unsigned refusal)
 {
     remember(d);
     kaungimewe_receive_answer a = kaungimewe_receive(&desk[d], f.bytes, f.size);
-    check(a.refusal == refusal && a.kind == 0 && a.executed == 0 && a.dropped == 0, "receive refuses");
+    check(a.refusal == refusal && a.kind == 0 && a.executed == 0 && a.dropped == 0 && a.missing == 0, "receive refuses");
     check_unchanged(d, "a refusal leaves the desk");
 }
 
@@ -181,9 +189,19 @@ static void check_false_stamp(frame f11)
     frame lie;
     lie.size = kaungimewe_write(1, 2, 1000, 1500, 100, 400, f11.bytes, 0, lie.bytes, sizeof lie.bytes).size;
     desk[2] = kaungimewe_new(2).desk;
-    receive(2, lie, KAUNGIMEWE_WAITS, 0, 0);
+    wait(2, lie, 1);
     receive(2, f11, KAUNGIMEWE_EXECUTED, 1, 1);
     refuse(2, lie, KAUNGIMEWE_FALSE_STAMP);
+}
+
+/* A fresh desk 4 gets 1.2 and 2.2 before what they follow: each is short of so many, 1.2 missing while it waits. */
+static void check_missing(frame f12, frame f22, frame f11)
+{
+    desk[4] = kaungimewe_new(4).desk;
+    wait(4, f12, 3);
+    wait(4, f22, 2);
+    receive(4, f12, KAUNGIMEWE_KNOWN, 0, 0);
+    receive(4, f11, KAUNGIMEWE_EXECUTED, 1, 0);
 }
 
 int main(void)
@@ -198,7 +216,7 @@ int main(void)
     check_bytes(f12);
 
     receive(2, f31, KAUNGIMEWE_EXECUTED, 1, 0);
-    receive(2, f12, KAUNGIMEWE_WAITS, 0, 0);
+    wait(2, f12, 1);
     receive(2, f12, KAUNGIMEWE_KNOWN, 0, 0);
     receive(2, f11, KAUNGIMEWE_EXECUTED, 2, 0);
     check(desk[2].desks[2] == 1 && desk[2].numbers[2] == 1 && desk[2].numbers[3] == 2, "1.1 was executed, then 1.2");
@@ -219,6 +237,7 @@ int main(void)
     check_first_apart();
     check_frames(f12);
     check_false_stamp(f11);
+    check_missing(f12, f22, f11);
     printf("%u passed, %u failed\n", passed, failed);
     return failed != 0;
 }

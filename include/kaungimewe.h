@@ -116,6 +116,8 @@ typedef struct {
     uint8_t kind;      /* KAUNGIMEWE_KNOWN, KAUNGIMEWE_WAITS or KAUNGIMEWE_EXECUTED */
     uint16_t executed; /* marks executed by the call, released ones among them */
     uint16_t dropped;  /* released marks dropped for a false stamp */
+    uint16_t missing;  /* of KAUNGIMEWE_WAITS, never 0: entries not executed, and the mark's desk's previous mark where
+                        * that is neither executed nor an entry; else 0 */
 } kaungimewe_receive_answer;
 
 typedef struct {
@@ -191,8 +193,8 @@ static inline kaungimewe_mark_answer kaungimewe_mark(kaungimewe_desk *desk, uint
                                 high, out, lent);
 }
 
-/* Receive: the frame's mark is known, set waiting, or executed; after an executed mark the ready waiting ones are
- * released. Refuses with 2 to 11. */
+/* Receive: the frame's mark is known, set waiting, short of so many marks, or executed; after an executed mark the ready
+ * waiting ones are released. Refuses with 2 to 11. */
 static inline kaungimewe_receive_answer kaungimewe_receive(kaungimewe_desk *desk, const uint8_t *frame, size_t size)
 {
     kaungimewe_waiting *queue = &desk->queue;

@@ -61,6 +61,7 @@ pub(crate) struct ReceiveAnswer {
     pub kind: u8,
     pub executed: u16,
     pub dropped: u16,
+    pub missing: u16,
 }
 
 #[repr(C)]

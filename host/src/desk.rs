@@ -64,14 +64,14 @@ impl Desk {
         Ok(Marked { number: answer.number, size: answer.size })
     }
 
-    /// Receive: the frame's mark is known, set waiting or executed; an executed mark releases the waiting ones that
-    /// have become ready. Refuses with 2 to 11.
+    /// Receive: the frame's mark is known, set waiting, short of so many marks, or executed; an executed mark releases
+    /// the waiting ones that have become ready. Refuses with 2 to 11.
     pub fn receive(&mut self, frame: &[u8]) -> Result<Reception, Refusal> {
         let answer = self.receive_lent(frame);
         Refusal::check(answer.refusal)?;
         Ok(match answer.kind {
             1 => Reception::Known,
-            2 => Reception::Waiting,
+            2 => Reception::Waiting { missing: answer.missing },
             _ => Reception::Executed { executed: answer.executed, dropped: answer.dropped },
         })
     }

@@ -70,8 +70,12 @@ pub struct Marked {
 pub enum Reception {
     /// The mark was executed or waiting here, with the same bytes.
     Known,
-    /// A mark that it follows is not executed here yet.
-    Waiting,
+    /// The mark waits: marks that it follows directly are not executed here yet.
+    Waiting {
+        /// How many, never 0: entries of its stamp that are not executed, and its desk's previous mark where that is
+        /// neither executed nor an entry. It is said of this moment, and kept nowhere.
+        missing: u16,
+    },
     /// The mark was executed, and waiting marks that had become ready were released.
     Executed {
         /// How many marks the call executed, the received one among them.

@@ -39,6 +39,7 @@ fn stored(name: &str) -> String {
 fn examples_are_answered_as_stored() {
     assert_eq!(printed(&["run", "paper.txt"], ""), stored("paper.out"));
     assert_eq!(printed(&["run", "--explain", "refusals.txt"], ""), stored("refusals.out"));
+    assert_eq!(printed(&["run", "waiting.txt"], ""), stored("waiting.out"));
 }
 
 #[test]

@@ -1,12 +1,15 @@
 //! How often Receive has given each answer.
 use kaungimewe::{Reception, Refusal};
 
-/// Frames received, by answer: known, waiting, executed, and the refusals by number. Marks released and dropped besides.
+/// Frames received, by answer: known, waiting, executed, and the refusals by number. Of the waiting ones how many were
+/// short of more than one mark, and the most that one was short of. Marks released and dropped besides.
 #[derive(Clone, Copy, Debug, Default)]
 pub struct Answers {
     pub frames: usize,
     pub known: usize,
     pub waiting: usize,
+    pub short_of_more: usize,
+    pub most_missing: u16,
     pub executed: usize,
     pub released: usize,
     pub dropped: usize,
@@ -18,7 +21,11 @@ impl Answers {
         self.frames += 1;
         match answer {
             Ok(Reception::Known) => self.known += 1,
-            Ok(Reception::Waiting) => self.waiting += 1,
+            Ok(Reception::Waiting { missing }) => {
+                self.waiting += 1;
+                self.short_of_more += usize::from(missing > 1);
+                self.most_missing = self.most_missing.max(missing);
+            }
             Ok(Reception::Executed { executed, dropped }) => {
                 self.executed += 1;
                 self.released += usize::from(executed) - 1;
@@ -30,7 +37,7 @@ impl Answers {
 
     /// Every answer of Receive that document 01 names was given: refusals 2 to 11, and those that are none.
     pub fn all_given(&self) -> bool {
-        let others = [self.known, self.waiting, self.executed, self.released, self.dropped];
+        let others = [self.known, self.waiting, self.short_of_more, self.executed, self.released, self.dropped];
         others.iter().chain(&self.refused[2..=11]).all(|&count| count > 0)
     }
 }
@@ -41,6 +48,8 @@ impl std::iter::Sum for Answers {
             sum.frames += a.frames;
             sum.known += a.known;
             sum.waiting += a.waiting;
+            sum.short_of_more += a.short_of_more;
+            sum.most_missing = sum.most_missing.max(a.most_missing);
             sum.executed += a.executed;
             sum.released += a.released;
             sum.dropped += a.dropped;

@@ -5,7 +5,7 @@ use kaungimewe::{reader, writer, Desk, Fields, Mark, MarkBox, MarkId, Reception,
 
 use crate::damaged::compare_readers;
 use crate::full::chained;
-use crate::pair::{executed, Pair};
+use crate::pair::{executed, waiting, Pair};
 
 const BOX: MarkBox = MarkBox { start: 1_000, end: 1_500, low: 100, high: 400 };
 
@@ -64,7 +64,7 @@ fn scenario() -> Scenario {
     s.hand_ready(1, &[id(2, 1), id(3, 1)]);
     s.mark(id(1, 2));
     s.hand_ready(2, &[id(3, 1)]);
-    assert_eq!(s.hand(2, id(1, 2)), Ok(Reception::Waiting));
+    assert_eq!(s.hand(2, id(1, 2)), waiting(1));
     assert_eq!(s.hand(2, id(1, 1)), executed(2, 0));
     let order: Vec<MarkId> = s.desk(2).engine.executed().iter().map(|mark| mark.id).collect();
     assert_eq!(order, [id(2, 1), id(3, 1), id(1, 1), id(1, 2)]);
@@ -105,7 +105,7 @@ fn apart_and_relations_of_the_scenario() {
 fn false_stamp_is_dropped_or_refused() {
     let lie = codec::frame_of(&Mark { id: id(1, 2), extent: BOX, stamp: Vec::new() });
     let mut desk = Pair::<Desk>::new(2);
-    assert_eq!(desk.receive(&lie), Ok(Reception::Waiting));
+    assert_eq!(desk.receive(&lie), waiting(1));
     assert_eq!(desk.receive(&chained(1, 1)), executed(1, 1));
     assert_eq!(desk.receive(&lie), Err(Refusal::FalseStamp));
 }
@@ -141,7 +141,7 @@ fn ranges_of_fields() {
 fn waiting_marks_at_most() {
     let mut desk = Pair::<Desk>::new(1);
     for number in 2..=65 {
-        assert_eq!(desk.receive(&chained(2, number)), Ok(Reception::Waiting));
+        assert_eq!(desk.receive(&chained(2, number)), waiting(1));
     }
     assert_eq!(desk.receive(&chained(2, 66)), Err(Refusal::WaitingFull));
 }

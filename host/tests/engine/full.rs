@@ -5,7 +5,7 @@ use kaungimewe::peers::{Engine, Stamped};
 use kaungimewe::{Desk, Mark, MarkBox, MarkId, Reception, Refusal};
 
 use crate::answers::Answers;
-use crate::pair::{executed, Pair};
+use crate::pair::{executed, waiting, Pair};
 
 /// The frame of mark d.n that follows nothing but d.(n − 1).
 pub fn chained(desk: u8, number: u16) -> Vec<u8> {
@@ -17,15 +17,15 @@ pub fn chained(desk: u8, number: u16) -> Vec<u8> {
 pub fn sequence<E: Stamped>(draws: &mut Draws) -> Answers {
     let mut desk = Pair::<E>::new(1);
     let mut next = [1u16; 17];
-    let waiting = if draws.percent(50) { 64 } else { draws.below(65) };
+    let held = if draws.percent(50) { 64 } else { draws.below(65) };
     let spare = draws.below(4);
-    fill(&mut desk, &mut next, 512 - waiting - spare, draws);
+    fill(&mut desk, &mut next, 512 - held - spare, draws);
     let late = 2 + draws.below(15);
     let ahead = |by: usize| chained(late as u8, next[late] + by as u16);
-    for by in 1..=waiting {
-        assert_eq!(desk.receive(&ahead(by)), Ok(Reception::Waiting));
+    for by in 1..=held {
+        assert_eq!(desk.receive(&ahead(by)), waiting(1));
     }
-    if spare > 0 && waiting == 64 {
+    if spare > 0 && held == 64 {
         assert_eq!(desk.receive(&ahead(65)), Err(Refusal::WaitingFull));
     }
     for _ in 0..spare {
@@ -81,14 +81,14 @@ fn every_pair_of_a_full_desk() {
 fn sixty_four_wait_and_one_frame_releases_them() {
     let mut desk = Pair::<Desk>::new(1);
     for number in 2..=65 {
-        assert_eq!(desk.receive(&chained(9, number)), Ok(Reception::Waiting));
+        assert_eq!(desk.receive(&chained(9, number)), waiting(1));
     }
     assert_eq!(desk.receive(&chained(9, 66)), Err(Refusal::WaitingFull));
     assert_eq!(desk.receive(&chained(8, 2)), Err(Refusal::WaitingFull));
     assert_eq!(desk.receive(&chained(9, 40)), Ok(Reception::Known));
     assert_eq!(desk.receive(&chained(8, 1)), executed(1, 0));
     assert_eq!(desk.receive(&chained(9, 1)), executed(65, 0));
-    assert_eq!(desk.receive(&chained(9, 67)), Ok(Reception::Waiting));
+    assert_eq!(desk.receive(&chained(9, 67)), waiting(1));
     desk.compare(&mut Draws::new(3));
 }
 
@@ -102,7 +102,7 @@ fn freed_places_serve_again() {
         codec::frame_of(&mark)
     };
     for number in last + 2..=last + 64 {
-        assert_eq!(desk.receive(&lie(number)), Ok(Reception::Waiting));
+        assert_eq!(desk.receive(&lie(number)), waiting(1));
     }
     assert_eq!(desk.receive(&chained(2, last + 1)), executed(1, 1));
     assert_eq!(desk.receive(&chained(2, last + 2)), executed(1, 1));

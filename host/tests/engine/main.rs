@@ -6,6 +6,7 @@ mod examples;
 mod forged;
 mod full;
 mod lengths;
+mod missing;
 mod network;
 mod pair;
 mod pinned;

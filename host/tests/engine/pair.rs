@@ -60,6 +60,11 @@ impl<E: Stamped> Pair<E> {
     }
 }
 
+/// What Receive answers of a mark that waits, short of so many.
+pub fn waiting(missing: u16) -> Result<Reception, Refusal> {
+    Ok(Reception::Waiting { missing })
+}
+
 /// What Receive answers of marks executed by the call and dropped.
 pub fn executed(executed: u16, dropped: u16) -> Result<Reception, Refusal> {
     Ok(Reception::Executed { executed, dropped })

@@ -3,17 +3,17 @@ use kaungimewe::peers::model::codec;
 use kaungimewe::{Desk, Mark, MarkBox, MarkId, Reception, Refusal};
 
 use crate::full::chained;
-use crate::pair::{executed, Pair};
+use crate::pair::{executed, waiting, Pair};
 
 /// The frame of d.n with these entries.
-fn frame(desk: u8, number: u16, stamp: &[(u8, u16)]) -> Vec<u8> {
+pub fn frame(desk: u8, number: u16, stamp: &[(u8, u16)]) -> Vec<u8> {
     let stamp = stamp.iter().map(|&(d, n)| MarkId::new(d, n)).collect();
     let extent = MarkBox { start: 1_000, end: 1_500, low: 100, high: 400 };
     codec::frame_of(&Mark { id: MarkId::new(desk, number), extent, stamp })
 }
 
 /// A desk that has executed these frames, one after the other.
-fn desk(own: u8, frames: &[Vec<u8>]) -> Pair<Desk> {
+pub fn desk(own: u8, frames: &[Vec<u8>]) -> Pair<Desk> {
     let mut desk = Pair::<Desk>::new(own);
     for frame in frames {
         assert_eq!(desk.receive(frame), executed(1, 0));
@@ -26,7 +26,7 @@ fn the_lowest_desk_is_released_first() {
     for order in [[2, 3], [3, 2]] {
         let mut four = Pair::<Desk>::new(4);
         for waits in order {
-            assert_eq!(four.receive(&frame(waits, 1, &[(1, 1)])), Ok(Reception::Waiting));
+            assert_eq!(four.receive(&frame(waits, 1, &[(1, 1)])), waiting(1));
         }
         assert_eq!(four.receive(&chained(1, 1)), executed(3, 0));
         let desks: Vec<u8> = four.engine.executed().iter().map(|mark| mark.id.desk).collect();
@@ -50,7 +50,7 @@ fn refusals_by_stamp_and_name() {
     assert_eq!(two.receive(&frame(1, 1, &[(2, 1)])), Err(Refusal::NotYetMade));
     let mut four = desk(4, &[chained(1, 1), frame(2, 1, &[(1, 1)])]);
     assert_eq!(four.receive(&frame(3, 1, &[(1, 1), (2, 1)])), Err(Refusal::FalseStamp));
-    assert_eq!(two.receive(&frame(1, 2, &[(1, 1)])), Ok(Reception::Waiting));
+    assert_eq!(two.receive(&frame(1, 2, &[(1, 1)])), waiting(1));
     assert_eq!(two.receive(&frame(1, 2, &[(1, 1)])), Ok(Reception::Known));
     assert_eq!(two.receive(&frame(1, 2, &[])), Err(Refusal::OtherBytes));
 }

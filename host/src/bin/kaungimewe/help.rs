@@ -20,7 +20,7 @@ what stands behind a #.
 
   new D                                  desk D                     | refused 1
   mark D START END LOW HIGH [LENT]       marked D.N SIZE HEX        | refused C
-  receive D HEX                          known | waiting | executed K F | refused C
+  receive D HEX                          known | waiting M | executed K F | refused C
   hand D A.N                             as receive, with the frame that this script's mark A.N wrote;
                                          unmade where there is none
   relate D A.N B.M                       same | before | after | concurrent | refused 12
@@ -35,7 +35,8 @@ what stands behind a #.
 
 D and E are desks, 1 to 16. A.N is the N-th mark made at desk A. START and END are milliseconds, LOW and HIGH hertz, 32 bits
 each. LENT is how many bytes the call is lent to write to (the largest frame, 71, if left out), ROOM how many names (512).
-K counts the marks executed by the call, F those dropped for a false stamp.
+M counts the marks that a waiting one is short of: entries of its stamp that are not executed there, and its desk's previous
+mark where that is neither executed nor an entry. K counts the marks executed by the call, F those dropped for a false stamp.
 Words are separated by spaces, numbers are decimal, bytes are hex (- for no bytes). `new D` of a desk that is there gives an
 empty desk in its place.
 

@@ -82,7 +82,7 @@ impl Room {
 fn received(desk: &mut Desk, frame: &[u8]) -> Answer {
     Ok(match desk.receive(frame)? {
         Reception::Known => "known".to_string(),
-        Reception::Waiting => "waiting".to_string(),
+        Reception::Waiting { missing } => format!("waiting {missing}"),
         Reception::Executed { executed, dropped } => format!("executed {executed} {dropped}"),
     })
 }

@@ -1,5 +1,5 @@
 //! The calls of the engine by reference.
-use super::{false_stamp, frame, ready, ByReference, Held, Row};
+use super::{false_stamp, frame, missing, ByReference, Held, Row};
 use crate::peers::{Engine, Stamped};
 use crate::{Mark, MarkBox, MarkId, Marked, Reception, Refusal, Relation, DESKS, PLACES, WAITING};
 
@@ -80,12 +80,13 @@ impl Engine for ByReference {
         if self.full() {
             return Err(Refusal::DeskFull);
         }
-        if !ready(&tally, &mark) {
+        let missing = missing(&tally, &mark);
+        if missing > 0 {
             if self.waiting.len() == WAITING {
                 return Err(Refusal::WaitingFull);
             }
             self.waiting.push(mark);
-            return Ok(Reception::Waiting);
+            return Ok(Reception::Waiting { missing });
         }
         let below = self.below(&mark.row);
         if false_stamp(&mark, &below) {

@@ -48,10 +48,12 @@ fn join(row: &mut Row, other: &Row) {
     }
 }
 
-/// The readiness test, by the tally.
-fn ready(tally: &Row, mark: &Held) -> bool {
-    mark.row.iter().zip(tally).all(|(named, made)| named <= made)
-        && mark.number <= tally[usize::from(mark.desk) - 1] + 1
+/// The readiness test, by the tally: how many marks are missing.
+fn missing(tally: &Row, mark: &Held) -> u16 {
+    let own = usize::from(mark.desk) - 1;
+    let entries: u16 = mark.row.iter().zip(tally).map(|(named, made)| u16::from(named > made)).sum();
+    let previous = tally[own] + 1 < mark.number && mark.row[own] != mark.number - 1;
+    entries + u16::from(previous)
 }
 
 /// The false-stamp test of a ready mark; `below` is what precedes an entry of its stamp.
@@ -133,7 +135,7 @@ impl ByReference {
         let (mut executed, mut dropped) = (0, 0);
         while !self.waiting.is_empty() {
             let tally = self.tally();
-            let ready = (0..self.waiting.len()).filter(|&i| ready(&tally, &self.waiting[i]));
+            let ready = (0..self.waiting.len()).filter(|&i| missing(&tally, &self.waiting[i]) == 0);
             let Some(lowest) = ready.min_by_key(|&i| self.waiting[i].desk) else { break };
             let mark = self.waiting.remove(lowest);
             let below = self.below(&mark.row);

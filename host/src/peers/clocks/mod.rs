@@ -76,7 +76,8 @@ impl Engine for ClockDesk {
         }
         if !mark.clock.is_next(id.desk, &self.now) {
             self.waiting.insert(id, mark);
-            return Ok(Reception::Waiting);
+            // Counts do not tell which marks it follows directly, so it says of none that it is missing.
+            return Ok(Reception::Waiting { missing: 0 });
         }
         self.execute(id, mark);
         Ok(Reception::Executed { executed: 1 + self.release(), dropped: 0 })

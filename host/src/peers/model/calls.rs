@@ -50,12 +50,13 @@ impl Engine for Model {
         if self.held() == 512 {
             return Err(Refusal::DeskFull);
         }
-        if !self.ready(&mark) {
+        let missing = self.missing(&mark).len() as u16;
+        if missing > 0 {
             if self.waiting.len() == 64 {
                 return Err(Refusal::WaitingFull);
             }
             self.waiting.push(mark);
-            return Ok(Reception::Waiting);
+            return Ok(Reception::Waiting { missing });
         }
         if self.false_stamp(&mark) {
             return Err(Refusal::FalseStamp);

@@ -7,7 +7,7 @@ mod calls;
 pub mod codec;
 mod past;
 
-use std::collections::BTreeMap;
+use std::collections::{BTreeMap, BTreeSet};
 
 use crate::{Mark, MarkId, Refusal};
 use past::Past;
@@ -75,6 +75,15 @@ impl Model {
 
     fn ready(&self, mark: &Mark) -> bool {
         mark.stamp.iter().all(|e| self.is_executed(*e)) && previous(mark.id).is_none_or(|id| self.is_executed(id))
+    }
+
+    /// Order 1: of the marks that it follows directly, its entries and its desk's previous one, those that are not
+    /// executed, waiting ones among them. A ready mark has none.
+    fn missing(&self, mark: &Mark) -> BTreeSet<MarkId> {
+        let direct: BTreeSet<MarkId> = mark.stamp.iter().copied().chain(previous(mark.id)).collect();
+        let missing: BTreeSet<MarkId> = direct.into_iter().filter(|id| !self.is_executed(*id)).collect();
+        assert_eq!(missing.is_empty(), self.ready(mark), "{} is ready if none is missing", mark.id);
+        missing
     }
 
     /// All marks that precede an entry of a ready mark's stamp.
