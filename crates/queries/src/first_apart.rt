@@ -89,7 +89,7 @@ fn seen<'a>(
         );
     }
     if numbers[i] <= row[desks[i] as usize - 1] {
-        rows::join(stamps, i, row);
+        predecessors::join(stamps, i, row);
     }
     seen(desks, numbers, stamps, before, row, Place(i), desk, k, q)
 }

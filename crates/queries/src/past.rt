@@ -18,6 +18,6 @@ pub fn past<'a>(
 {
     let none = [0u16; WIDTH];
     let mut row = rows::row_at(stamps, p.0);
-    rows::trace(desks, numbers, stamps, &none, &mut row, p, Place(0));
+    predecessors::trace(desks, numbers, stamps, &none, &mut row, p, Place(0));
     row
 }

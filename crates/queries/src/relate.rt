@@ -40,7 +40,7 @@ fn follow<'a>(
     }
     let p = at.0 - 1;
     if numbers[p] <= row[desks[p] as usize - 1] {
-        rows::join(stamps, p, row);
+        predecessors::join(stamps, p, row);
     }
     follow(desks, numbers, stamps, row, Place(p), to, i)
 }

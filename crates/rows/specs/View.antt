@@ -64,20 +64,10 @@ view n (suc p) ds ns bs ss = markAt n ds ns bs ss p ∷ view n p ds ns bs ss
 unfoldable pub Named : ℕ → ℕ → List ℕ → Type 0
 Named n count ds = (p : ℕ) → p < count → (1 ≤ getD ds p 0) × (getD ds p 0 ≤ n)
 
--- How many of the first k counts of the one row are above those of the other.
-unfoldable pub aboveIn : ℕ → List ℕ → List ℕ → ℕ
-aboveIn zero r t = 0
-aboveIn (suc k) r t = elim (ltb (getD t k 0) (getD r k 0)) [ true ↦ suc (aboveIn k r t) | false ↦ aboveIn k r t ]
-
 -- One of the first k counts of the one row is no 0 and at most that of the other.
 abbrev pub someReached : ℕ → List ℕ → List ℕ → Bool
 someReached zero s r = false
 someReached (suc k) s r = (ltb 0 (getD s k 0) && leb (getD s k 0) (getD r k 0)) || someReached k s r
-
--- How many of the first k counts of a row are no 0.
-unfoldable pub namesIn : ℕ → List ℕ → ℕ
-namesIn zero r = 0
-namesIn (suc k) r = elim (ltb 0 (getD r k 0)) [ true ↦ suc (namesIn k r) | false ↦ namesIn k r ]
 
 -- The mark at a place below the count, or none.
 unfoldable pub placeAt : ℕ → ℕ → ℕ → List ℕ → List ℕ → (ℕ → MarkBox) → List ℕ → Option Mark

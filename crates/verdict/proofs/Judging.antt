@@ -22,9 +22,9 @@ use Rattle.waiting.specs.declared.Waiting.{Waiting}
 use Rattle.verdict.specs.Kept.{KeptIn, stateIn}
 use Rattle.verdict.specs.Judgement.{Tallies, admission, holds, judgement, knownIf, meeting, refuses, runs, sameBox, unmadeBy}
 use Rattle.rows.proofs.Arrays.{view-at}
-use Rattle.rows.specs.Steps.{missingBy}
+use Rattle.predecessors.specs.Steps.{missingBy}
 use Rattle.rows.proofs.ByRows.{row-at}
-use Rattle.rows.proofs.MissingLaws.{missing-by-tally}
+use Rattle.predecessors.proofs.MissingLaws.{missing-by-tally}
 use Rattle.verdict.proofs.Invariant.{kept-fit, kept-own, kept-waiting-fit}
 use Rattle.verdict.proofs.Judged.{known-by-row, unmade-by-row}
 use Rattle.rows.proofs.Places.{found-none, found-some}

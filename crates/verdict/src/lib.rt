@@ -98,9 +98,9 @@ pub fn is_false<'a>(
 {
     let row = h.row;
     let n = h.number;
-    let to = rows::oldest(desks, numbers, asked(row, h.desk, n.0), count);
+    let to = predecessors::oldest(desks, numbers, asked(row, h.desk, n.0), count);
     let mut below = [0u16; WIDTH];
-    rows::trace(
+    predecessors::trace(
         desks,
         numbers,
         stamps,
@@ -109,7 +109,7 @@ pub fn is_false<'a>(
         Place(count),
         Place(to),
     );
-    rows::false_stamp(row, below, h.desk, n.0)
+    predecessors::false_stamp(row, below, h.desk, n.0)
 }
 
 // 9, 10, 11, by the tally; so many marks wait.
@@ -130,7 +130,7 @@ fn admit<'a>(
     if count + waiting == PLACES {
         return Verdict::Refused(Refusal::DeskFull);
     }
-    let short = rows::missing(tally, h.desk, n.0, row);
+    let short = predecessors::missing(tally, h.desk, n.0, row);
     if short == 0 {
         if is_false(desks, numbers, stamps, count, h) {
             return Verdict::Refused(Refusal::FalseStamp);

@@ -15,9 +15,9 @@ use Rattle.frame.specs.declared.MarkBox.{MarkBox}
 use Rattle.causality.specs.Marks.{lower, lowest}
 use Rattle.causality.specs.State.{Mark, markId, ready}
 use Rattle.rows.specs.View.{Named, markAt, placeAt, rowAt, rowFn, view}
-use Rattle.rows.specs.Steps.{missingBy}
+use Rattle.predecessors.specs.Steps.{missingBy}
 use Rattle.rows.proofs.ByRows.{entries-cong}
-use Rattle.rows.proofs.MissingLaws.{ready-by-tally}
+use Rattle.predecessors.proofs.MissingLaws.{ready-by-tally}
 use Rattle.rows.proofs.RowSteps.{named-at}
 use Rattle.waiting.specs.Queue.{TallyOf, named}
 use Rattle.waiting.proofs.ListLaws.{listOf, view-list}

@@ -162,7 +162,7 @@ pub fn lowest_ready<'a>(
     while i < count {
         let desk = desks[i];
         let row = rows::row_at(stamps, i);
-        if rows::missing(tally, desk, numbers[i], row) == 0 {
+        if predecessors::missing(tally, desk, numbers[i], row) == 0 {
             if desk <= lowest {
                 best = i;
                 lowest = desk;

@@ -3,7 +3,7 @@ use borrow.Author.Needs.{needs}
 use lib.ListN.{length-replicate}
 use Prim.Native.Nat.{ℕ}
 use Rattle.rows.specs.View.{heldId, width}
-use Rattle.rows.proofs.OldestLaws.{oldest-before}
+use Rattle.predecessors.proofs.OldestLaws.{oldest-before}
 use Rattle.verdict.proofs.JudgeLaws.{false-found}
 use Rattle.verdict.proofs.is_false.Statement.{statement}
 use Rattle.verdict.proofs.is_false.Tie as tie

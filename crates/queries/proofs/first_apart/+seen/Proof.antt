@@ -16,7 +16,7 @@ use Rattle.queries.proofs.first_apart.seen.Reads as seen
 use Rattle.queries.proofs.first_apart.seen.Kinds as seen-kinds
 use Rattle.queries.proofs.first_apart.+seen.Lts-seen as seen-lts
 use Rattle.queries.proofs.first_apart.wide.Reads as wide-reads
-use Rattle.rows.proofs.join.Reads as join-reads
+use Rattle.predecessors.proofs.join.Reads as join-reads
 use Rattle.queries.proofs.first_apart.+seen.{statement}
 use Rattle.queries.proofs.first_apart.+seen.Tie.{close}
 

@@ -2,7 +2,7 @@
 use Prim.Native.Nat.{_-_, _<_, _≤_, suc, zero, ℕ}
 use borrow.Author.Tests.{eqb-false, lt-ltb, ltb-false, ltb-true}
 use lib.Dec.{T, eqb, eqb→eq, leb, leb→le, ltb, nleb→lt, not-T}
-use lib.ListN.{getD, length, length-set, set}
+use lib.ListN.{getD, getD-replicate, length, length-set, replicate, set}
 use lib.Seq.{getD-set-other, getD-set-same}
 use mathlib.Core.Bool.{Bool, false, true}
 use mathlib.Core.List.{List}
@@ -16,11 +16,25 @@ use Rattle.causality.specs.Marks.{has}
 use Rattle.causality.specs.State.{ids}
 use Rattle.causality.proofs.Logic.{nT→eq, split}
 use Rattle.causality.proofs.Reach.{Sound}
-use Rattle.rows.specs.View.{nameAt, namesIn, view, width}
-use Rattle.rows.specs.Steps.{AllFrom, Oldest, StandsFrom}
+use Rattle.rows.specs.View.{nameAt, view, width}
+use Rattle.predecessors.specs.Steps.{AllFrom, Oldest, StandsFrom, aboveIn}
 use Rattle.rows.proofs.Places.{not-before}
 
 -- NAMES
+
+-- How many of the first k counts of a row are no 0: so many marks it names.
+unfoldable pub namesIn : ℕ → List ℕ → ℕ
+namesIn zero r = 0
+namesIn (suc k) r = elim (ltb 0 (getD r k 0)) [ true ↦ suc (namesIn k r) | false ↦ namesIn k r ]
+
+-- They are those above 0.
+pub above-names : (n k : ℕ) (r : List ℕ) → k ≤ n → aboveIn k r (replicate n 0) ≡ namesIn k r
+unfolding aboveIn namesIn
+above-names n zero r h = refl
+above-names n (suc k) r h =
+    let e : _≡_ {A = ℕ} (getD (replicate n 0) k 0) 0 = getD-replicate n k 0 0 h in
+    let t = above-names n k r (omega arith) in
+    λ i. elim (ltb (e i) (getD r k 0)) [ true ↦ suc (t i) | false ↦ t i ]
 
 -- No name is left.
 names-zero : (k : ℕ) (r : List ℕ) → namesIn k r ≡ 0 → (j : ℕ) → j < k → getD r j 0 ≡ 0

@@ -5,10 +5,10 @@ use mir.Syntax.{w16}
 use mir.Val.{Fits}
 use native.Mathlib.Omega.{arith}
 use borrow.Author.Needs.{needs}
 use Rattle.rows.specs.View.{width}
-use Rattle.rows.proofs.MissingLaws.{above-le, missing-entry, missing-more, missing-none}
-use Rattle.rows.proofs.missing.Statement.{statement}
-use Rattle.rows.proofs.missing.Tie as tie
+use Rattle.predecessors.proofs.MissingLaws.{above-le, missing-entry, missing-more, missing-none}
+use Rattle.predecessors.proofs.missing.Statement.{statement}
+use Rattle.predecessors.proofs.missing.Tie as tie
 
 add-if1 : tie.Need-add-if1
 add-if1 c = let a = c .before .args in let f : Fits w16 (getD (a .t1) (a .desk - 1) 0) = search needs in omega arith

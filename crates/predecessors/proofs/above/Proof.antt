@@ -2,12 +2,13 @@
 use mathlib.Core.Logic.{⊎-elim}
 use mathlib.Core.Path.{_≡_, _∙_}
 use Prim.Native.Nat.{_≤_, _-_}
-use Rattle.rows.specs.View.{aboveIn, width}
-use Rattle.rows.proofs.MissingLaws.{above-kept, above-le, above-more, above-start}
+use Rattle.rows.specs.View.{width}
+use Rattle.predecessors.specs.Steps.{aboveIn}
+use Rattle.predecessors.proofs.MissingLaws.{above-kept, above-le, above-more, above-start}
 use borrow.Author.Needs.{needs}
 use native.Mathlib.Omega.{arith}
-use Rattle.rows.proofs.above.Statement.{statement}
-use Rattle.rows.proofs.above.Tie as tie
+use Rattle.predecessors.proofs.above.Statement.{statement}
+use Rattle.predecessors.proofs.above.Tie as tie
 
 abbrev Inv-loop : tie.InvT-loop
 Inv-loop row other n₀ j₀ n j = (j ≤ width) × (n ≡ aboveIn j row other)

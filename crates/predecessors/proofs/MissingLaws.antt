@@ -2,7 +2,7 @@
 use Prim.Native.Nat.{_+_, _-_, _<_, _≤_, suc, zero, ℕ}
 use borrow.Author.Tests.{eq-eqb, le-ltb, lt-ltb, ltb-false, ltb-true, ne-eqb}
 use lib.Dec.{T, T-not, eqb, eqb→eq, leb, leb→le, ltb, lt→ltb, ltb→lt, nleb→lt, not-T}
-use lib.ListN.{getD, getD-replicate, length, replicate}
+use lib.ListN.{getD, length}
 use mathlib.Core.Bool.{Bool, _&&_, and-false, cond, false, not, true}
 use mathlib.Core.List.{List, [], _++_, _∷_}
 use mathlib.Core.Logic.{inl, inr}
@@ -17,9 +17,9 @@ use Rattle.causality.proofs.Logic.{and-fst, and-intro, and-snd, bool-ext, eq→
 use Rattle.causality.proofs.Missing.{ready-missing}
 use Rattle.causality.proofs.Past.{Counted, prefix-has, prefix-le}
 use Rattle.causality.proofs.RowLaws.{entriesFrom, entriesOfRow, show, shown}
-use Rattle.rows.specs.View.{aboveIn, namesIn, rowFn}
-use Rattle.rows.specs.Steps.{missingBy}
+use Rattle.rows.specs.View.{rowFn}
+use Rattle.predecessors.specs.Steps.{aboveIn, missingBy}
 use Rattle.rows.proofs.RowBytes.{entries-more, entryAt, entryIf}
 
 -- COUNTS ABOVE
 
@@ -46,15 +46,6 @@ above-more j m r t e h = rw (add-one j, add-one m, lt-ltb (getD t j 0) (getD r j
 pub above-kept : (j m : ℕ) (r t : List ℕ) → m ≡ aboveIn j r t → getD r j 0 ≤ getD t j 0 → m ≡ aboveIn (j + 1) r t
 unfolding aboveIn
 above-kept j m r t e h = rw (add-one j, le-ltb (getD t j 0) (getD r j 0) h, aboveIn) e
-
--- A row names the marks at which it is above 0.
-pub above-names : (n k : ℕ) (r : List ℕ) → k ≤ n → aboveIn k r (replicate n 0) ≡ namesIn k r
-unfolding aboveIn namesIn
-above-names n zero r h = refl
-above-names n (suc k) r h =
-    let e : _≡_ {A = ℕ} (getD (replicate n 0) k 0) 0 = getD-replicate n k 0 0 h in
-    let t = above-names n k r (omega arith) in
-    λ i. elim (ltb (e i) (getD r k 0)) [ true ↦ suc (t i) | false ↦ t i ]
 
 -- MISSING MARKS
 
