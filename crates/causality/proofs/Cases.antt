@@ -7,12 +7,14 @@ use mathlib.Core.Bool.{Bool, _||_, false, true}
 use mathlib.Core.List.{List, _++_, _∷_}
 use mathlib.Core.Option.{Option, none, some}
 use mathlib.Core.Path.{_≡_, refl}
+use Rattle.frame.specs.declared.Fields.{Fields}
 use Rattle.frame.specs.declared.MarkBox.{MarkBox}
 use Rattle.frame.specs.Answer.{Answer, gives, refused}
+use Rattle.frame.specs.Frame.{edition, readFields}
 use Rattle.frame.specs.Mark.{boxRule}
 use Rattle.frame.proofs.Tests.{passes}
 use Rattle.causality.specs.Answers.{Executed, Known, Numbered, Reply, Waiting}
-use Rattle.causality.specs.Calls.{Received, arrive, executing, frameOfMark, full, markAnswer, newMark, numbered, receiveMark, refuse, sameBytes, sizeOfMark, unmade}
+use Rattle.causality.specs.Calls.{Received, arrive, executing, frameOfMark, full, ifRead, markAnswer, markIn, newMark, numbered, receive, receiveMark, refuse, sameBytes, sizeOfMark, unmade}
 use Rattle.causality.specs.Marks.{any, find, waitingPlaces}
 use Rattle.causality.specs.State.{Mark, State, falseStamp, markId, ready}
 use Rattle.causality.proofs.Missing.{short-some}
@@ -79,3 +81,12 @@ receive-case N st m s = go (unmade st (m .id) || any (unmade st) (m .stamp)) ref
     go true e o q = rw (e, receiveMark) (stays (refused 7) (refusal 7))
     go false e none q = rw (e, receiveMark) (rw q (arrive-case st m (λ r. record { made = e; absent = q; room = r })))
     go false e (some h) q = rw (e, receiveMark) (rw q (knows h (sameBytes (frameOfMark N h) s) refl))
+
+-- The same of bytes: those that the reader refuses leave the desk as it is.
+pub received-case : (N : ℕ) (st : State) (s : List ℕ) → ReceiveCase st (markIn N s) (receive N st s)
+unfolding receive refuse
+received-case N st s = go (readFields (edition N) s)
+  where
+    go : (a : Answer Fields) → ReceiveCase st (markIn N s) (ifRead a st (receiveMark N st (markIn N s) s))
+    go (gives f) = receive-case N st (markIn N s) s
+    go (refused c) = stays (refused c) (refusal c)

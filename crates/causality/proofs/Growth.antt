@@ -6,14 +6,12 @@ use mathlib.Core.List.{List, _∷_}
 use mathlib.Core.Option.{Option, none, some}
 use mathlib.Core.Path.{_≡_, refl}
 use native.Mathlib.Omega.{arith}
-use Rattle.frame.specs.declared.Fields.{Fields}
-use Rattle.frame.specs.Answer.{Answer, gives, refused}
-use Rattle.frame.specs.Frame.{edition, readFields}
+use Rattle.frame.specs.Answer.{gives}
 use Rattle.causality.specs.Answers.{Waiting}
-use Rattle.causality.specs.Calls.{Received, executing, ifRead, markIn, receive, receiveMark, refuse, release}
+use Rattle.causality.specs.Calls.{Received, executing, markIn, receive, release}
 use Rattle.causality.specs.Marks.{lowest, without}
 use Rattle.causality.specs.State.{Mark, State, falseStamp, markId, ready}
-use Rattle.causality.proofs.Cases.{ReceiveCase, executedBy, executes, known, receive-case, refusal, stays, waits}
+use Rattle.causality.proofs.Cases.{ReceiveCase, executedBy, executes, known, received-case, refusal, stays, waits}
 
 release-growth : (turns : ℕ) (l ws : List Mark) (k f : ℕ) → (release turns l ws k f) .k + length l ≡ k + length ((release turns l ws k f) .executed)
 release-growth zero l ws k f = refl
@@ -38,15 +36,7 @@ case-growth st m r (executes a b c) = let g = release-growth (length (st .waitin
 
 pub receive-growth : (N : ℕ) (st : State) (s : List ℕ)
     → length ((receive N st s) .state .executed) ≡ executedBy ((receive N st s) .answer) + length (st .executed)
-unfolding receive refuse
-receive-growth N st s = go (readFields (edition N) s)
-  where
-    r : Received
-    r = receiveMark N st (markIn N s) s
-
-    go : (a : Answer Fields) → length ((ifRead a st r) .state .executed) ≡ executedBy ((ifRead a st r) .answer) + length (st .executed)
-    go (gives f) = case-growth st (markIn N s) r (receive-case N st (markIn N s) s)
-    go (refused c) = omega arith
+receive-growth N st s = case-growth st (markIn N s) (receive N st s) (received-case N st s)
 
 -- Order 1: "Waiting carries that number, which is never 0".
 case-short : (st : State) (m : Mark) (r : Received) (n : ℕ) → ReceiveCase st m r → r .answer ≡ gives (Waiting n) → 0 < n
@@ -57,12 +47,4 @@ case-short st m r n (waits a b c k p) e = let z : k ≡ n = cc in omega arith
 case-short st m r n (executes a b c) e = let z : _≡_ {A = ℕ} 0 1 = cc in omega arith
 
 pub waiting-short : (N : ℕ) (st : State) (s : List ℕ) (n : ℕ) → (receive N st s) .answer ≡ gives (Waiting n) → 0 < n
-unfolding receive refuse
-waiting-short N st s n = go (readFields (edition N) s)
-  where
-    r : Received
-    r = receiveMark N st (markIn N s) s
-
-    go : (a : Answer Fields) → (ifRead a st r) .answer ≡ gives (Waiting n) → 0 < n
-    go (gives f) e = case-short st (markIn N s) r n (receive-case N st (markIn N s) s) e
-    go (refused c) e = let z : _≡_ {A = ℕ} 0 1 = cc in omega arith
+waiting-short N st s n = case-short st (markIn N s) (receive N st s) n (received-case N st s)

@@ -4,14 +4,13 @@ use lib.ListN.{length}
 use mathlib.Core.List.{List}
 use mathlib.Core.Path.{_≡_, refl}
 use native.Mathlib.Omega.{arith}
-use Rattle.frame.specs.declared.Fields.{Fields}
 use Rattle.frame.specs.declared.MarkBox.{MarkBox}
 use Rattle.frame.specs.Answer.{Answer, gives, refused}
-use Rattle.frame.specs.Frame.{edition, overIf, readFields}
+use Rattle.frame.specs.Frame.{overIf}
 use Rattle.causality.specs.Answers.{Numbered}
-use Rattle.causality.specs.Calls.{Received, execute, executing, frameOfMark, ifRead, mark, markAnswer, markIn, newMark, receive, receiveMark, refuse, stateIf}
+use Rattle.causality.specs.Calls.{Received, execute, executing, frameOfMark, mark, markAnswer, markIn, newMark, receive, stateIf}
 use Rattle.causality.specs.State.{Mark, State}
-use Rattle.causality.proofs.Cases.{ReceiveCase, executes, receive-case, stays, waits}
+use Rattle.causality.proofs.Cases.{ReceiveCase, executes, received-case, stays, waits}
 
 -- No answer is a refusal.
 gives-refused : {A : Type 0} (a : A) (c : ℕ) → gives a ≡ refused c → ⊥
@@ -24,15 +23,7 @@ case-refused st m r c (waits w b f n p) e = absurd (gives-refused _ c e)
 case-refused st m r c (executes w b f) e = absurd (gives-refused _ c e)
 
 pub receive-refused : (N : ℕ) (st : State) (s : List ℕ) (c : ℕ) → receive N st s .answer ≡ refused c → receive N st s .state ≡ st
-unfolding receive refuse
-receive-refused N st s c = go (readFields (edition N) s)
-  where
-    r : Received
-    r = receiveMark N st (markIn N s) s
-
-    go : (a : Answer Fields) → ifRead a st r .answer ≡ refused c → ifRead a st r .state ≡ st
-    go (gives f) e = case-refused st (markIn N s) r c (receive-case N st (markIn N s) s) e
-    go (refused k) e = refl
+receive-refused N st s c = case-refused st (markIn N s) (receive N st s) c (received-case N st s)
 
 pub mark-refused : (N : ℕ) (st : State) (b : MarkBox) (out : List ℕ) (c : ℕ) → mark N st b out .answer ≡ refused c → (mark N st b out .state ≡ st) × (mark N st b out .bytes ≡ out)
 unfolding mark

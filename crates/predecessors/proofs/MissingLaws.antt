@@ -1,7 +1,7 @@
 -- The missing marks by a row and the tally: counts above counted turn by turn, and what they say of the definitions. n: how many desks. Assumes nothing.
 use Prim.Native.Nat.{_+_, _-_, _<_, _≤_, suc, zero, ℕ}
 use borrow.Author.Tests.{eq-eqb, le-ltb, lt-ltb, ltb-false, ltb-true, ne-eqb}
-use lib.Dec.{T, T-not, eqb, eqb→eq, leb, leb→le, ltb, lt→ltb, ltb→lt, nleb→lt, not-T}
+use lib.Dec.{T-not, eqb, eqb→eq, leb, leb→le, ltb, lt→ltb, ltb→lt, nleb→lt, not-T}
 use lib.ListN.{getD, length}
 use mathlib.Core.Bool.{Bool, _&&_, and-false, cond, false, not, true}
 use mathlib.Core.List.{List, [], _++_, _∷_}
@@ -13,7 +13,7 @@ use Rattle.frame.specs.declared.MarkBox.{MarkBox}
 use Rattle.frame.specs.Mark.{MarkId}
 use Rattle.causality.specs.Marks.{has, keep, tally}
 use Rattle.causality.specs.State.{Mark, ids, lacksPrevious, missing, missingEntries, previous, ready}
-use Rattle.causality.proofs.Logic.{and-fst, and-intro, and-snd, bool-ext, eq→T, split}
+use Rattle.causality.proofs.Logic.{bool-ext, eq→T, split}
 use Rattle.causality.proofs.Missing.{ready-missing}
 use Rattle.causality.proofs.Past.{Counted, prefix-has, prefix-le}
 use Rattle.causality.proofs.RowLaws.{entriesFrom, entriesOfRow, show, shown}
@@ -52,13 +52,13 @@ above-kept j m r t e h = rw (add-one j, le-ltb (getD t j 0) (getD r j 0) h, abov
 -- The previous mark is missing too, or an entry, or executed.
 module _ (n : ℕ) (t : List ℕ) (d number : ℕ) (row : List ℕ) (x : ℕ) (e : x ≡ aboveIn n row t) where
   pub missing-more : getD t (d - 1) 0 + 1 < number → (getD row (d - 1) 0 ≡ number - 1 → ⊥) → x + 1 ≡ missingBy n t d number row
-  missing-more p q = rw (lt-ltb (suc (getD t (d - 1) 0)) number (omega arith), ne-eqb (getD row (d - 1) 0) (number - 1) q) (omega arith)
+  missing-more p q = rw (lt-ltb (getD t (d - 1) 0) (number - 1) (omega arith), ne-eqb (getD row (d - 1) 0) (number - 1) q) (omega arith)
 
   pub missing-entry : getD row (d - 1) 0 ≡ number - 1 → x ≡ missingBy n t d number row
   missing-entry q = rw (eq-eqb (getD row (d - 1) 0) (number - 1) q, and-false) (omega arith)
 
   pub missing-none : number ≤ getD t (d - 1) 0 + 1 → x ≡ missingBy n t d number row
-  missing-none p = rw (le-ltb (suc (getD t (d - 1) 0)) number (omega arith)) (omega arith)
+  missing-none p = rw (le-ltb (getD t (d - 1) 0) (number - 1) (omega arith)) (omega arith)
 
 -- How many pass of two lists.
 keep-both : (p : MarkId → Bool) (xs ys : List MarkId) → length (keep p (xs ++ ys)) ≡ length (keep p xs) + length (keep p ys)
@@ -113,39 +113,25 @@ module _ (n : ℕ) (l : List Mark) (c : Counted (ids l)) (t row : List ℕ) (f :
     abbrev mark : Mark
     mark = record { id = i; extent = b; stamp = entriesOfRow n (rowFn row) }
 
-    lacks-by-tally : lacksPrevious l mark ≡ (ltb (suc (rowFn t (i .desk))) (i .number) && not (eqb (rowFn row (i .desk)) (i .number - 1)))
+    lacks-by-tally : lacksPrevious l mark ≡ (ltb (rowFn t (i .desk)) (i .number - 1) && not (eqb (rowFn row (i .desk)) (i .number - 1)))
     unfolding lacksPrevious previous
-    lacks-by-tally = bool-ext (ltb 1 (i .number) && (absent pr && not (has pr es))) (ltb (suc (rowFn t (i .desk))) (i .number) && not (eqb (rowFn row (i .desk)) (i .number - 1))) there back
+    lacks-by-tally = elim (split (leb (i .number) 1)) [
+      | inl u ↦ let p = leb→le (i .number) 1 u in rw (le-ltb 1 (i .number) p, le-ltb (rowFn t (i .desk)) (i .number - 1) (omega arith)) refl
+      | inr u ↦
+          let p = nleb→lt (i .number) 1 u in
+          let above = absent-above pr lo hi (omega arith) in
+          let named = entry p in
+          rw (lt-ltb 1 (i .number) p) (λ k. above k && not (named k))
+    ]
       where
-        es : List MarkId
-        es = entriesOfRow n (rowFn row)
-
         pr : MarkId
         pr = record { desk = i .desk; number = i .number - 1 }
 
-        -- The previous mark is not executed, and no entry, by its desk's counts.
-        above : 1 < i .number → absent pr ≡ ltb (rowFn t (i .desk)) (i .number - 1)
-        above p = absent-above pr lo hi (omega arith)
-
-        entry : 1 < i .number → has pr es ≡ eqb (rowFn row (i .desk)) (i .number - 1)
-        entry p = bool-ext (has pr es) (eqb (rowFn row (i .desk)) (i .number - 1))
+        -- The previous mark is an entry where its desk's count in the row is its number.
+        entry : 1 < i .number → has pr (entriesOfRow n (rowFn row)) ≡ eqb (rowFn row (i .desk)) (i .number - 1)
+        entry p = bool-ext (has pr (entriesOfRow n (rowFn row))) (eqb (rowFn row (i .desk)) (i .number - 1))
             (λ u. eq→T (eqb (rowFn row (i .desk)) (i .number - 1)) (eq-eqb (rowFn row (i .desk)) (i .number - 1) (sym (shown (rowFn row) 1 n pr u .value))))
             (λ u. show (rowFn row) 1 n pr (record { low = lo; high = omega arith; value = sym (eqb→eq (rowFn row (i .desk)) (i .number - 1) u); pos = omega arith }))
-
-        there : T (ltb 1 (i .number) && (absent pr && not (has pr es))) → T (ltb (suc (rowFn t (i .desk))) (i .number) && not (eqb (rowFn row (i .desk)) (i .number - 1)))
-        there u =
-            let p = ltb→lt 1 (i .number) (and-fst (ltb 1 (i .number)) (absent pr && not (has pr es)) u) in
-            let v = and-snd (ltb 1 (i .number)) (absent pr && not (has pr es)) u in
-            let x = ltb→lt (rowFn t (i .desk)) (i .number - 1) (rw (above p) at (and-fst (absent pr) (not (has pr es)) v)) in
-            and-intro (ltb (suc (rowFn t (i .desk))) (i .number)) (not (eqb (rowFn row (i .desk)) (i .number - 1))) (lt→ltb (suc (rowFn t (i .desk))) (i .number) (omega arith)) (rw (entry p) at (and-snd (absent pr) (not (has pr es)) v))
-
-        back : T (ltb (suc (rowFn t (i .desk))) (i .number) && not (eqb (rowFn row (i .desk)) (i .number - 1))) → T (ltb 1 (i .number) && (absent pr && not (has pr es)))
-        back u =
-            let x = ltb→lt (suc (rowFn t (i .desk))) (i .number) (and-fst (ltb (suc (rowFn t (i .desk))) (i .number)) (not (eqb (rowFn row (i .desk)) (i .number - 1))) u) in
-            let p : 1 < i .number = omega arith in
-            and-intro (ltb 1 (i .number)) (absent pr && not (has pr es)) (lt→ltb 1 (i .number) p)
-            (and-intro (absent pr) (not (has pr es)) (rw (above p) (lt→ltb (rowFn t (i .desk)) (i .number - 1) (omega arith)))
-            (rw (entry p) (and-snd (ltb (suc (rowFn t (i .desk))) (i .number)) (not (eqb (rowFn row (i .desk)) (i .number - 1))) u)))
 
     pub missing-by-tally : missing l mark ≡ missingBy n t (i .desk) (i .number) row
     unfolding missing missingEntries

@@ -47,7 +47,7 @@ aboveIn (suc k) r t = elim (ltb (getD t k 0) (getD r k 0)) [ true ↦ suc (above
 -- is neither counted nor named.
 abbrev pub missingBy : ℕ → List ℕ → ℕ → ℕ → List ℕ → ℕ
 missingBy n tally d number row =
-    aboveIn n row tally + cond (ltb (suc (getD tally (d - 1) 0)) number && not (eqb (getD row (d - 1) 0) (number - 1))) 1 0
+    aboveIn n row tally + cond (ltb (getD tally (d - 1) 0) (number - 1) && not (eqb (getD row (d - 1) 0) (number - 1))) 1 0
 
 -- The false-stamp test by rows: an entry precedes another, or the previous mark of the desk neither is an entry nor precedes one.
 abbrev pub falseBy : List ℕ → List ℕ → ℕ → ℕ → Bool
