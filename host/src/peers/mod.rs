@@ -1,7 +1,8 @@
 //! Engines beside the proved one, to test and to measure it against. None of them is proved.
 //!
-//! [`model`] says what every call answers, from document 01 alone, with sets and full counts. [`by_reference`] is the
-//! proved engine's plan in plain Rust. [`clocks`] is the usual vector clock, with frames of its own.
+//! [`model`] says what every call answers, from the customer's documents alone, with sets and full counts.
+//! [`by_reference`] is the proved engine's plan in plain Rust. [`clocks`] is the usual vector clock, with frames of its
+//! own.
 pub mod by_reference;
 pub mod clocks;
 pub mod draws;

@@ -35,7 +35,8 @@ impl Answers {
         }
     }
 
-    /// Every answer of Receive that document 01 names was given: refusals 2 to 11, and those that are none.
+    /// Every answer of Receive was given: refusals 2 to 11, and those that are none, Waiting with more than one mark
+    /// missing among them.
     pub fn all_given(&self) -> bool {
         let others = [self.known, self.waiting, self.short_of_more, self.executed, self.released, self.dropped];
         others.iter().chain(&self.refused[2..=11]).all(|&count| count > 0)

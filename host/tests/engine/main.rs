@@ -1,4 +1,4 @@
-//! The proved engine against the model of document 01: examples, random sequences, damaged and forged frames, bounds.
+//! The proved engine against the model: examples, random sequences, damaged and forged frames, bounds.
 mod answers;
 mod compare;
 mod damaged;

@@ -1,4 +1,4 @@
-//! The model: what every call answers, written from document 01 alone, with sets and full counts.
+//! The model: what every call answers, written from the customer's documents alone, with sets and full counts.
 //!
 //! Each executed mark keeps its whole past as a set of marks and as full counts (a vector clock). Precedence is decided
 //! by the counts, and held against the set each time. The model shares with the engine the names of things and no
