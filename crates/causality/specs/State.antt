@@ -55,15 +55,16 @@ unfoldable pub ready : List Mark → Mark → Bool
 ready executed m =
     all (λ e. has e (ids executed)) (m .stamp) && (leb (m .id .number) 1 || has (previous (m .id)) (ids executed))
 
--- Order 1: "entries not executed"; the "own desk's previous mark is neither executed nor an entry", where number > 1; "the number of missing marks". A
--- waiting mark is not executed, and only direct predecessors count.
+-- Order 1: "entries not executed". A waiting mark is not executed.
 unfoldable pub missingEntries : List Mark → Mark → List MarkId
 missingEntries executed m = keep (λ e. not (has e (ids executed))) (m .stamp)
 
+-- "the own desk's previous mark is neither executed nor an entry": there is one where number > 1.
 unfoldable pub lacksPrevious : List Mark → Mark → Bool
 lacksPrevious executed m =
     ltb 1 (m .id .number) && (not (has (previous (m .id)) (ids executed)) && not (has (previous (m .id)) (m .stamp)))
 
+-- "the number of missing marks: entries not executed, plus one where" that holds. Only direct predecessors count.
 unfoldable pub missing : List Mark → Mark → ℕ
 missing executed m = length (missingEntries executed m) + cond (lacksPrevious executed m) 1 0
 
