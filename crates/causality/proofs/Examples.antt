@@ -4,15 +4,16 @@ use lib.Dec.{T}
 use lib.ListN.{replicate, take}
 use mathlib.Core.Bool.{Bool, _&&_, false, true}
 use mathlib.Core.List.{List, [], _++_, _∷_, reverse}
+use Rattle.frame.specs.declared.Fields.{Fields}
 use Rattle.frame.specs.declared.MarkBox.{MarkBox}
 use Rattle.frame.specs.Answer.{Answer, gives, refused}
 use Rattle.frame.specs.Frame.{at2, at4, bytes2, bytes4, countBad, edition, entriesBad, entriesOf, entryBad, fieldsBad, fieldsOf, frameOf, headOf, lengthBad, outputShort, partBad, readEntries, readFields, versionBad, writeSize}
 use Rattle.frame.specs.Mark.{MarkId, boxRule, desks, isDesk, isNumber}
-use Rattle.causality.specs.Answers.{After, Before, Concurrent, Executed, Known, Relation, Reply, Same, Waiting}
+use Rattle.causality.specs.Answers.{After, Before, Concurrent, Executed, Known, Numbered, Relation, Reply, Same, Waiting}
 use Rattle.causality.specs.Calls.{apartOf, arrive, executing, fieldsOfMark, firstApart, frameOfMark, full, mark, markAnswer, markIn, new, newMark, receive, receiveMark, refuse, relate, sameBytes, sizeOfMark, unmade}
-use Rattle.causality.specs.Examples.{pinned, short, starred}
+use Rattle.causality.specs.Examples.{clicks, pinned, short, starred}
 use Rattle.causality.specs.Marks.{same}
-use Rattle.causality.specs.State.{State, concurrent, falseStamp, heads, ids, isHead, lacksPrevious, missing, missingEntries, previous, ready}
+use Rattle.causality.specs.State.{Mark, State, concurrent, falseStamp, heads, ids, isHead, lacksPrevious, missing, missingEntries, previous, ready}
 
 abbrev box : MarkBox
 box = record { start = 1_000; end = 1_500; low = 100; high = 400 }
@@ -153,20 +154,31 @@ foundShort =
     ∷ answered (fresh 5) (frame 1 9 (firsts (1 ∷ 2 ∷ 3 ∷ 4 ∷ 6 ∷ 7 ∷ 8 ∷ 9 ∷ 10 ∷ 11 ∷ 12 ∷ 13 ∷ 14 ∷ 15 ∷ 16 ∷ [])))
     ∷ []
 
+abbrev times : Answer Fields → List ℕ
+times (gives f) = f .extent .start ∷ f .extent .end ∷ []
+times (refused c) = c ∷ []
+
+abbrev numberIn : Answer Numbered → ℕ
+numberIn (gives n) = n .number
+numberIn (refused c) = c
+
+-- Writer and reader of mark 1.1 with this box, Mark of fresh desk 1, Receive of fresh desk 2.
+abbrev boxed : ℕ → ℕ → ℕ → ℕ → List ℕ
+boxed start end low high =
+    let b : MarkBox = record { start = start; end = end; low = low; high = high } in
+    let m : Mark = record { id = id 1 1; extent = b; stamp = [] } in
+    value (sizeOfMark desks m 71) ∷ (times (readFields (edition desks) (frameOfMark desks m))
+    ++ (numberIn ((mark desks (fresh 1) b (replicate 71 0)) .answer) ∷ answered (fresh 2) (frameOfMark desks m)))
+
+abbrev foundClicks : List (List ℕ)
+foundClicks = boxed 1_000 1_000 100 400 ∷ boxed 1_001 1_000 100 400 ∷ boxed 1_000 1_000 400 400 ∷ boxed 4_294_967_295 4_294_967_295 100 400 ∷ []
+
 abbrev equal : List (List ℕ) → List (List ℕ) → Bool
 equal [] [] = true
 equal [] (y ∷ ys) = false
 equal (x ∷ xs) [] = false
 equal (x ∷ xs) (y ∷ ys) = sameBytes x y && equal xs ys
 
-pub examples : T (equal found starred)
+pub examples : T (equal found starred) × T (equal foundPinned pinned) × T (equal foundShort short) × T (equal foundClicks clicks)
 unfolding isDesk isNumber boxRule at2 at4 bytes2 bytes4 fieldsOf headOf frameOf lengthBad versionBad countBad partBad fieldsBad entryBad entriesBad outputShort readFields readEntries writeSize same isHead heads previous ready missingEntries lacksPrevious missing falseStamp concurrent new fieldsOfMark frameOfMark sizeOfMark markIn full newMark markAnswer mark refuse executing arrive unmade receiveMark receive relate apartOf firstApart
-examples = tt
-
-pub pins : T (equal foundPinned pinned)
-unfolding isDesk isNumber boxRule at2 at4 bytes2 bytes4 fieldsOf headOf frameOf lengthBad versionBad countBad partBad fieldsBad entryBad entriesBad outputShort readFields readEntries writeSize same isHead heads previous ready missingEntries lacksPrevious missing falseStamp concurrent new fieldsOfMark frameOfMark sizeOfMark markIn full newMark markAnswer mark refuse executing arrive unmade receiveMark receive relate apartOf firstApart
-pins = tt
-
-pub shorts : T (equal foundShort short)
-unfolding isDesk isNumber boxRule at2 at4 bytes2 bytes4 fieldsOf headOf frameOf lengthBad versionBad countBad partBad fieldsBad entryBad entriesBad outputShort readFields readEntries writeSize same isHead heads previous ready missingEntries lacksPrevious missing falseStamp concurrent new fieldsOfMark frameOfMark sizeOfMark markIn full newMark markAnswer mark refuse executing arrive unmade receiveMark receive relate apartOf firstApart
-shorts = tt
+examples = (tt, tt, tt, tt)

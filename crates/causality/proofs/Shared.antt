@@ -1,7 +1,7 @@
 -- What desk and plain machine share, each pinned by a law: demand 3 compares the two, and cannot see what both would get wrong alike. Of `lowest` it is
 -- `lowest-least` in Lists.antt. Assumes nothing.
 use Prim.Native.Nat.{_+_, _<_, _≤_, suc, ℕ}
-use lib.Dec.{T, eqb, leb, leb→le, lt→ltb, ltb, ltb→lt, nleb→lt}
+use lib.Dec.{T, eqb, le→leb, leb, leb→le, lt→ltb, ltb, ltb→lt, nleb→lt}
 use lib.ListN.{length}
 use mathlib.Core.Bool.{Bool, cond, false, not, true}
 use mathlib.Core.List.{List, [], _∷_}
@@ -19,14 +19,14 @@ use Rattle.causality.proofs.Logic.{and-fst, and-intro, and-snd}
 pub places-numbers : places ≤ numbers
 places-numbers = omega arith
 
--- boxRule: "with start < end and low < high".
-pub box-rule : (b : MarkBox) → T (boxRule b) ↔ ((b .start < b .end) × (b .low < b .high))
+-- boxRule: "start ≤ end; low < high is kept".
+pub box-rule : (b : MarkBox) → T (boxRule b) ↔ ((b .start ≤ b .end) × (b .low < b .high))
 unfolding boxRule
 box-rule b =
-    let times = ltb (b .start) (b .end) in
+    let times = leb (b .start) (b .end) in
     let pitches = ltb (b .low) (b .high) in (
-      λ t. (ltb→lt (b .start) (b .end) (and-fst times pitches t), ltb→lt (b .low) (b .high) (and-snd times pitches t)),
-      λ p. and-intro times pitches (lt→ltb (b .start) (b .end) (p .0)) (lt→ltb (b .low) (b .high) (p .1)),
+      λ t. (leb→le (b .start) (b .end) (and-fst times pitches t), ltb→lt (b .low) (b .high) (and-snd times pitches t)),
+      λ p. and-intro times pitches (le→leb (b .start) (b .end) (p .0)) (lt→ltb (b .low) (b .high) (p .1)),
     )
 
 -- tally: how many of the names are of desk d.

@@ -40,24 +40,19 @@ pub fn at(frames: &[u8], slot: u8) -> &[u8] {
     &frames[0..0]
 }
 
-// The box of the document's frame.
-pub fn extent() -> MarkBox {
+// The box from start to end milliseconds, from low to 400 hertz.
+pub fn boxed(start: u32, end: u32, low: u32) -> MarkBox {
     MarkBox {
-        start: 1000,
-        end: 1500,
-        low: 100,
+        start: start,
+        end: end,
+        low: low,
         high: 400,
     }
 }
 
-// The same with start = end.
-pub fn no_extent() -> MarkBox {
-    MarkBox {
-        start: 1000,
-        end: 1000,
-        low: 100,
-        high: 400,
-    }
+// The box of the document's frame.
+pub fn extent() -> MarkBox {
+    boxed(1000, 1500, 100)
 }
 
 // A mark with these entries.

@@ -112,9 +112,9 @@ fn refused_by_rising_number(desk: Desk, frames: &mut [u8])
     requires { ⌜ Kept desk ⌝ }
 {
     let a = calls::mark(
-        b"full desk marks, start = end",
+        b"full desk marks 1001 to 1000 ms",
         desk,
-        frames::no_extent(),
+        frames::boxed(1001, 1000, 100),
         frames,
     );
     calls::mark_first(b"full desk marks into 0 bytes", a, frames, 0);

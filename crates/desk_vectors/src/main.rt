@@ -1,5 +1,6 @@
 // Runs document 01's cases of the seven calls and document 02's, a line each; Apart by its list, with no reference. The file stdout has what the documents say.
 mod calls;
+mod clicks;
 mod frames;
 mod limits;
 mod missing;
@@ -16,6 +17,7 @@ fn main() {
     refusals::false_stamps();
     refusals::receive();
     missing::run();
+    clicks::run();
     limits::waiting();
     limits::full();
     sixteen::run();

@@ -91,13 +91,6 @@ fn short(own: u8) {
     }
 }
 
-fn box_rule() {
-    let mut space = [0u8; 32];
-    let out: &mut [u8] = &mut space;
-    let d = calls::new(1);
-    calls::mark(b"start = end", d, frames::no_extent(), out);
-}
-
 pub fn receive() {
     short(2);
     altered(b"hex frame of 1.2", 2, 2, 1);
@@ -107,5 +100,4 @@ pub fn receive() {
     altered(b"entry (4,1) before (3,1)", 2, 26, 4);
     altered(b"1.2 at desk 1", 1, 2, 1);
     altered(b"1.2 at desk 3, entry (3,1) not made", 3, 2, 1);
-    box_rule();
 }

@@ -1,4 +1,4 @@
-// Runs document 01's frame cases, and more made from its refusal table, a line each. The file stdout has what the document says.
+// Runs document 01's frame cases, document 02's, and more made from the refusal table, a line each. The file stdout has what the documents say.
 mod frames;
 mod reads;
 mod show;
@@ -17,6 +17,7 @@ fn reader_cases() {
     reads::count_cases();
     reads::desk_and_number_cases();
     reads::time_cases();
+    reads::click_cases();
     reads::pitch_cases();
     reads::entry_cases();
     reads::desk_order_cases();
@@ -28,6 +29,7 @@ fn writer_cases() {
     writes::largest_case();
     writes::part_cases();
     writes::field_cases();
+    writes::click_cases();
     writes::entry_cases();
     writes::lowest_number_cases();
 }

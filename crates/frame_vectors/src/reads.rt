@@ -92,7 +92,6 @@ pub fn document_cases() {
     sized(b"22 bytes", 22, 30);
     two(b"number 512", 4, 512);
     two(b"number 513", 4, 513);
-    four(b"start = end", 10, 1000);
 }
 
 pub fn length_cases() {
@@ -135,8 +134,16 @@ pub fn time_cases() {
     four(b"start = end + 1", 10, 999);
     four(b"end = start + 1", 10, 1001);
     fours(b"start and end at the top", 6, 4294967294, 10, 4294967295);
-    fours(b"start = end at the top", 6, 4294967295, 10, 4294967295);
     fours(b"start 2^24, end 2^24 - 1", 6, 16777216, 10, 16777215);
+}
+
+// Order 2: a click is boxed as one instant.
+pub fn click_cases() {
+    four(b"1000 to 1000 ms", 10, 1000);
+    fours(b"1001 to 1000 ms", 6, 1001, 10, 1000);
+    fours(b"1000 to 1000 ms, 400 to 400 Hz", 10, 1000, 14, 400);
+    fours(b"start = end = 2^32 - 1", 6, 4294967295, 10, 4294967295);
+    fours(b"start = end = 0", 6, 0, 10, 0);
 }
 
 pub fn pitch_cases() {

@@ -97,10 +97,34 @@ pub fn field_cases() {
     bare(b"desk 17 written", mark(17, 2), 40);
     bare(b"number 0 written", mark(1, 0), 40);
     bare(b"number 513 written", mark(1, 513), 40);
-    let empty = fields(1, 2, 1000, 1000, 100, 400);
-    bare(b"start = end written", empty, 40);
     let flat = fields(1, 2, 1000, 1500, 100, 100);
     bare(b"low = high written", flat, 40);
+}
+
+// A first mark with no entries, and with this box.
+fn boxed(label: &[u8], start: u32, end: u32, low: u32, high: u32) {
+    bare(label, fields(1, 1, start, end, low, high), 40);
+}
+
+// Order 2: a click is boxed as one instant.
+pub fn click_cases() {
+    boxed(b"1000 to 1000 ms written", 1000, 1000, 100, 400);
+    boxed(b"1001 to 1000 ms written", 1001, 1000, 100, 400);
+    boxed(
+        b"1000 to 1000 ms, 400 to 400 Hz written",
+        1000,
+        1000,
+        400,
+        400,
+    );
+    boxed(
+        b"start = end = 2^32 - 1 written",
+        4294967295,
+        4294967295,
+        100,
+        400,
+    );
+    boxed(b"start = end = 0 written", 0, 0, 100, 400);
 }
 
 pub fn entry_cases() {
