@@ -204,11 +204,26 @@ static void check_missing(frame f12, frame f22, frame f11)
     receive(4, f11, KAUNGIMEWE_EXECUTED, 1, 0);
 }
 
+/* A click, boxed as one instant, made at a fresh desk 1 and handed to a fresh desk 2; start = end + 1 is refused. */
+static void check_click(void)
+{
+    frame click;
+    desk[1] = kaungimewe_new(1).desk;
+    desk[2] = kaungimewe_new(2).desk;
+    click.size = kaungimewe_mark(&desk[1], 1000, 1000, 100, 400, click.bytes, sizeof click.bytes).size;
+    kaungimewe_read_answer r = kaungimewe_read(click.bytes, click.size);
+    check(r.refusal == 0 && r.extent.start == 1000 && r.extent.end == 1000, "a click is made and read");
+    receive(2, click, KAUNGIMEWE_EXECUTED, 1, 0);
+    click.bytes[9]++;
+    check(kaungimewe_read(click.bytes, click.size).refusal == KAUNGIMEWE_FIELD_RANGE, "1,001 to 1,000 ms");
+    refuse(2, click, KAUNGIMEWE_FIELD_RANGE);
+}
+
 int main(void)
 {
     new_desks();
     refuse_mark(1, 1500, 22, KAUNGIMEWE_OUTPUT_SHORT);
-    refuse_mark(1, 1000, KAUNGIMEWE_LARGEST_FRAME, KAUNGIMEWE_FIELD_RANGE);
+    refuse_mark(1, 999, KAUNGIMEWE_LARGEST_FRAME, KAUNGIMEWE_FIELD_RANGE);
     frame f11 = mark(1, 1, 23), f21 = mark(2, 1, 23), f31 = mark(3, 1, 23), f32 = mark(3, 2, 26);
     receive(1, f21, KAUNGIMEWE_EXECUTED, 1, 0);
     receive(1, f31, KAUNGIMEWE_EXECUTED, 1, 0);
@@ -238,6 +253,7 @@ int main(void)
     check_frames(f12);
     check_false_stamp(f11);
     check_missing(f12, f22, f11);
+    check_click();
     printf("%u passed, %u failed\n", passed, failed);
     return failed != 0;
 }

@@ -43,7 +43,7 @@ enum {
     KAUNGIMEWE_FRAME_LENGTH = 2,   /* under 23 bytes, or length field not size - 2: receive, read */
     KAUNGIMEWE_FRAME_VERSION = 3,  /* version not 1: receive, read */
     KAUNGIMEWE_ENTRY_COUNT = 4,    /* c over 16, or (read) size not 23 + 3c, or (write) entries part not whole entries: receive, read, write */
-    KAUNGIMEWE_FIELD_RANGE = 5,    /* desk or number out of range, or box rule broken: receive, read, write, mark (box only) */
+    KAUNGIMEWE_FIELD_RANGE = 5,    /* desk or number out of range, or box rule broken (start > end, or low >= high): receive, read, write, mark (box only) */
     KAUNGIMEWE_ENTRY_RANGE = 6,    /* an entry out of range, desks not strictly rising, or own desk's entry with number >= the frame's: receive, read, write */
     KAUNGIMEWE_NOT_YET_MADE = 7,   /* frame's mark, or an entry, is of this desk and not yet made: receive */
     KAUNGIMEWE_OTHER_BYTES = 8,    /* same mark executed or waiting with other bytes: receive */
@@ -60,7 +60,8 @@ enum { KAUNGIMEWE_KNOWN = 1, KAUNGIMEWE_WAITS = 2, KAUNGIMEWE_EXECUTED = 3 };
 /* What relate answers: the first mark is the same as, before, after or concurrent with the second. */
 enum { KAUNGIMEWE_SAME = 1, KAUNGIMEWE_BEFORE = 2, KAUNGIMEWE_AFTER = 3, KAUNGIMEWE_CONCURRENT = 4 };
 
-/* A mark's box: start and end in milliseconds, low and high in hertz; start < end and low < high. */
+/* A mark's box: start and end in milliseconds, low and high in hertz; start <= end and low < high. A click is boxed as one
+ * instant: start = end. */
 typedef struct {
     uint32_t start, end, low, high;
 } kaungimewe_box;

@@ -24,7 +24,7 @@ impl fmt::Display for MarkId {
     }
 }
 
-/// A mark's box. The box rule: start < end and low < high.
+/// A mark's box. The box rule: start ≤ end and low < high; a click is boxed as one instant, start = end.
 #[repr(C)]
 #[derive(Clone, Copy, Debug, Default, PartialEq, Eq, PartialOrd, Ord, Hash)]
 pub struct MarkBox {

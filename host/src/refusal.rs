@@ -1,7 +1,7 @@
-//! Why a call refuses: the conditions of document 01's table.
+//! Why a call refuses: the conditions of document 01's table, as document 02 has changed them.
 use std::fmt;
 
-/// Why a call refuses: the conditions of document 01's table, in its order.
+/// Why a call refuses: the conditions of document 01's table, in its order, as document 02 has changed them.
 ///
 /// Conditions are tried by rising number, and a refused call leaves the desk and lent memory as they were.
 #[derive(Clone, Copy, Debug, PartialEq, Eq, PartialOrd, Ord, Hash)]
@@ -14,7 +14,7 @@ pub enum Refusal {
     FrameVersion,
     /// 4: c over 16, or (read) size not 23 + 3·c, or (writer) entries part not whole entries.
     EntryCount,
-    /// 5: desk or number out of range, or box rule broken.
+    /// 5: desk or number out of range, or box rule broken: start > end, or low ≥ high.
     FieldRange,
     /// 6: an entry out of range, desks not strictly rising, or own desk's entry with number ≥ the frame's.
     EntryRange,
@@ -57,14 +57,14 @@ impl Refusal {
         self as u8
     }
 
-    /// Its condition, in the words of document 01's table.
+    /// Its condition, in the words of document 01's table, with what document 02 has changed spelled out.
     pub fn sentence(self) -> &'static str {
         match self {
             Refusal::DeskRange => "desk not 1 to 16",
             Refusal::FrameLength => "under 23 bytes, or length field not size − 2",
             Refusal::FrameVersion => "version not 1",
             Refusal::EntryCount => "c over 16, or (read) size not 23 + 3·c, or (writer) entries part not whole entries",
-            Refusal::FieldRange => "desk or number out of range, or box rule broken",
+            Refusal::FieldRange => "desk or number out of range, or box rule broken: start > end, or low ≥ high",
             Refusal::EntryRange => {
                 "an entry out of range, desks not strictly rising, or own desk's entry with number ≥ the frame's"
             }

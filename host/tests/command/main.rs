@@ -40,6 +40,7 @@ fn examples_are_answered_as_stored() {
     assert_eq!(printed(&["run", "paper.txt"], ""), stored("paper.out"));
     assert_eq!(printed(&["run", "--explain", "refusals.txt"], ""), stored("refusals.out"));
     assert_eq!(printed(&["run", "waiting.txt"], ""), stored("waiting.out"));
+    assert_eq!(printed(&["run", "clicks.txt"], ""), stored("clicks.out"));
 }
 
 #[test]
@@ -120,6 +121,23 @@ fn the_picture_of_the_scenario() {
     assert_eq!(picture.matches("class=\"pair\"").count(), 3, "a line for each mark concurrent with 4.1");
     let waiting = printed(&["draw"], "new 1\nnew 2\nmark 1 0 1 0 1\nmark 1 0 1 0 1\nhand 2 1.2\n");
     assert_eq!(waiting.matches("<g class=\"waiting\">").count(), 2, "the hollow box and its sample");
+}
+
+/// The widths of a picture's boxes, samples last.
+fn widths(picture: &str) -> Vec<&str> {
+    picture.split("class=\"box\"").skip(1).filter_map(|rest| rest.split('"').nth(5)).collect()
+}
+
+/// A click has no width: it has a narrow box, with its instant in the title and a sample in the legend.
+#[test]
+fn the_picture_of_a_click() {
+    let boxed = |end| printed(&["draw"], &format!("new 1\nnew 16\nmark 1 1000 {end} 100 400\nhand 16 1.1\n"));
+    let (click, call) = (boxed(1000), boxed(1001));
+    assert_eq!(click.matches("<title>1.1: at 1000 ms, 100 to 400 Hz; entries: none</title>").count(), 2);
+    assert_eq!(call.matches("<title>1.1: 1000 to 1001 ms, 100 to 400 Hz; entries: none</title>").count(), 2);
+    assert_eq!(widths(&click), ["24", "24", "40", "40", "40", "24"]);
+    assert_eq!(widths(&call), ["50", "44", "40", "40", "40"]);
+    assert_eq!((click.matches(">a click<").count(), call.matches("click").count()), (2, 0));
 }
 
 #[test]

@@ -55,7 +55,7 @@ fn forge(desk: &impl Stamped, makers: usize, draws: &mut Draws) -> Mark {
     stamp.retain(|entry| entry.desk != id.desk || entry.number < id.number);
     let extent = loop {
         let drawn = draw_box(draws);
-        if drawn.start < drawn.end && drawn.low < drawn.high {
+        if drawn.start <= drawn.end && drawn.low < drawn.high {
             break drawn;
         }
     };

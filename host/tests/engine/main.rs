@@ -1,5 +1,6 @@
 //! The proved engine against the model: examples, random sequences, damaged and forged frames, bounds.
 mod answers;
+mod clicks;
 mod compare;
 mod damaged;
 mod examples;

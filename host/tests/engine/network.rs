@@ -59,7 +59,7 @@ fn long_sequences_of_sixteen_desks() {
     assert!(lossy.refused[10] > 100, "waiting sets are full at last: {lossy:?}");
 }
 
-/// A box, now and then a broken one.
+/// A box, now and then a click or a broken one: one pitch, or a start just behind the end.
 pub fn draw_box(draws: &mut Draws) -> MarkBox {
     let mut span = || {
         let low = draws.bits() as u32 >> draws.below(32);
@@ -67,6 +67,7 @@ pub fn draw_box(draws: &mut Draws) -> MarkBox {
         (low, low.saturating_add(length))
     };
     let ((start, end), (low, high)) = (span(), span());
+    let start = if draws.percent(3) { end.saturating_add(1) } else { start };
     MarkBox::new(start, end, low, high)
 }
 

@@ -5,11 +5,15 @@ use kaungimewe::{Desk, Mark, MarkBox, MarkId, Reception, Refusal};
 use crate::full::chained;
 use crate::pair::{executed, waiting, Pair};
 
-/// The frame of d.n with these entries.
-pub fn frame(desk: u8, number: u16, stamp: &[(u8, u16)]) -> Vec<u8> {
+/// The frame of d.n with this box and these entries.
+pub fn boxed(desk: u8, number: u16, extent: MarkBox, stamp: &[(u8, u16)]) -> Vec<u8> {
     let stamp = stamp.iter().map(|&(d, n)| MarkId::new(d, n)).collect();
-    let extent = MarkBox { start: 1_000, end: 1_500, low: 100, high: 400 };
     codec::frame_of(&Mark { id: MarkId::new(desk, number), extent, stamp })
+}
+
+/// The frame of d.n with the document's box and these entries.
+pub fn frame(desk: u8, number: u16, stamp: &[(u8, u16)]) -> Vec<u8> {
+    boxed(desk, number, MarkBox { start: 1_000, end: 1_500, low: 100, high: 400 }, stamp)
 }
 
 /// A desk that has executed these frames, one after the other.

@@ -34,7 +34,8 @@ what stands behind a #.
                                          written SIZE HEX           | refused C
 
 D and E are desks, 1 to 16. A.N is the N-th mark made at desk A. START and END are milliseconds, LOW and HIGH hertz, 32 bits
-each. LENT is how many bytes the call is lent to write to (the largest frame, 71, if left out), ROOM how many names (512).
+each; a click is boxed as one instant, with START and END the same. LENT is how many bytes the call is lent to write to (the
+largest frame, 71, if left out), ROOM how many names (512).
 M counts the marks that a waiting one is short of: entries of its stamp that are not executed there, and its desk's previous
 mark where that is neither executed nor an entry. K counts the marks executed by the call, F those dropped for a false stamp.
 Words are separated by spaces, numbers are decimal, bytes are hex (- for no bytes). `new D` of a desk that is there gives an
@@ -55,7 +56,8 @@ pub const DRAW: &str = "\
 Draws the script that `run` answers as an SVG picture: a line for each desk, the marks executed there as boxes from left to
 right in their order, the waiting ones hollow behind them. A bold box is a mark where it was made; an arrow runs to it from
 each entry of its stamp. With --apart, mark A.N is framed, and the marks concurrent with it are hatched and joined to it by
-broken lines. Point at a box for its times, frequencies and stamp.
+broken lines. A click, which has no width, has a narrow box, as wide as its name. Point at a box for its times, or a click's
+instant, its frequencies and its stamp.
 ";
 
 pub const BENCH: &str = "\

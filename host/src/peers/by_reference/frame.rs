@@ -11,7 +11,7 @@ fn four(frame: &[u8], at: usize) -> u32 {
 }
 
 pub(super) fn box_rule(b: &MarkBox) -> bool {
-    b.start < b.end && b.low < b.high
+    b.start <= b.end && b.low < b.high
 }
 
 pub(super) fn in_range(desk: u8, number: u16) -> bool {

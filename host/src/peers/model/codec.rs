@@ -10,7 +10,7 @@ fn number_in_range(number: u16) -> bool {
 }
 
 pub(super) fn box_rule(b: MarkBox) -> bool {
-    b.start < b.end && b.low < b.high
+    b.start <= b.end && b.low < b.high
 }
 
 /// Condition 5.

@@ -11,6 +11,8 @@ const TOP: i64 = 64;
 const COLUMN: i64 = 70;
 const LINE: i64 = 92;
 const LEGEND: i64 = 38;
+/// Samples in a line of the legend.
+const SAMPLES: usize = 3;
 
 /// A mark and those concurrent with it.
 pub type Pairs = Option<(MarkId, BTreeSet<MarkId>)>;
@@ -43,20 +45,28 @@ fn middle(shown: &Shown) -> (i64, i64) {
     (LEFT + COLUMN / 2 + COLUMN * shown.column as i64, TOP + LINE * shown.line as i64)
 }
 
-/// Half the width and half the height of a box: a mark's first one is larger.
+/// Half the width and half the height of a box: a mark's first one is larger, a click's is narrow.
 fn half(shown: &Shown) -> (i64, i64) {
-    if shown.first {
-        (25, 15)
-    } else {
-        (22, 11)
-    }
+    let (width, height) = if shown.first { (25, 15) } else { (22, 11) };
+    (if is_click(shown) { least_width(&shown.mark.id.to_string()) } else { width }, height)
+}
+
+/// Is the mark boxed as one instant?
+fn is_click(shown: &Shown) -> bool {
+    shown.mark.extent.start == shown.mark.extent.end
+}
+
+/// Half the width of a click's box: as its name needs, and below that of every other box.
+fn least_width(name: &str) -> i64 {
+    (4 * name.len() as i64).min(21)
 }
 
 /// The whole picture.
 pub fn picture(layout: &Layout, pairs: Pairs) -> String {
     let width = (LEFT + COLUMN * layout.columns as i64 + 24).max(620);
     let below = TOP + LINE * layout.desks.len() as i64;
-    let height = below + LEGEND * if pairs.is_some() { 3 } else { 2 };
+    let samples = samples(layout, &pairs);
+    let height = below + LEGEND * (samples.len().div_ceil(SAMPLES) as i64 + 1);
     let mut svg = format!(
         "<svg xmlns=\"http://www.w3.org/2000/svg\" width=\"{width}\" height=\"{height}\" viewBox=\"0 0 {width} {height}\">\n\
          <title>History of {} desks</title>\n{HEAD}<rect width=\"100%\" height=\"100%\" fill=\"white\"/>\n",
@@ -73,7 +83,7 @@ pub fn picture(layout: &Layout, pairs: Pairs) -> String {
         let (x, y) = middle(shown);
         svg += &mark_box(x, y, shown, &pairs);
     }
-    svg += &legend(below, &pairs);
+    svg += &legend(below, &samples);
     svg + "</svg>\n"
 }
 
@@ -87,15 +97,15 @@ fn desk_line(line: usize, desk: u8, width: i64) -> String {
     )
 }
 
-/// How far from the middle of its edge the i-th of n lines ends.
-fn shift((i, n): (usize, usize)) -> i64 {
-    (2 * i as i64 + 1 - n as i64) * 18 / n.max(1) as i64
+/// How far from the middle of a box's edge the i-th of n lines ends.
+fn shift((i, n): (usize, usize), to: &Shown) -> i64 {
+    (2 * i as i64 + 1 - n as i64) * (18 * half(to).0 / 25) / n.max(1) as i64
 }
 
 /// An arc above the line for two boxes of one desk, else a curve that leaves and enters by the facing edges.
 fn curve(from: &Shown, to: &Shown, slot: (usize, usize), gap: i64) -> String {
     let ((x, y), (u, v)) = (middle(from), middle(to));
-    let u = u + shift(slot);
+    let u = u + shift(slot, to);
     if from.line == to.line {
         let (top, end) = (y - half(from).1, v - half(to).1 - gap);
         let rise = 18 + 4 * (to.column as i64 - from.column as i64).abs().min(6);
@@ -114,7 +124,7 @@ fn arrow_path(layout: &Layout, arrow: &Arrow) -> String {
         return format!("<path class=\"entry\" d=\"{path}\"/>\n");
     }
     let ((x, y), (_, h)) = (middle(to), half(to));
-    let (x, top, end) = (x + shift(arrow.slot), y - h - 20, y - h - 2);
+    let (x, top, end) = (x + shift(arrow.slot, to), y - h - 20, y - h - 2);
     format!(
         "<path class=\"entry unseen\" d=\"M {x} {top} V {end}\"/>\
          <text class=\"name note\" x=\"{x}\" y=\"{}\">{}</text>\n",
@@ -147,7 +157,8 @@ fn mark_box(x: i64, y: i64, shown: &Shown, pairs: &Pairs) -> String {
         Some((name, others)) => (mark.id == *name, others.contains(&mark.id)),
     };
     let class = class_of(shown.kind, apart);
-    let title = format!("{}: {} to {} ms, {} to {} Hz; entries:{stamp}", mark.id, b.start, b.end, b.low, b.high);
+    let times = if is_click(shown) { format!("at {}", b.start) } else { format!("{} to {}", b.start, b.end) };
+    let title = format!("{}: {times} ms, {} to {} Hz; entries:{stamp}", mark.id, b.low, b.high);
     labelled_box(x, y, half(shown), &class, &mark.id.to_string(), &title, chosen)
 }
 
@@ -165,7 +176,7 @@ fn labelled_box(x: i64, y: i64, (w, h): (i64, i64), class: &str, name: &str, tit
         format!("<rect class=\"{class}\" x=\"{}\" y=\"{}\" width=\"{}\" height=\"{}\"/>", x - w, y - h, 2 * w, 2 * h)
     };
     let frame = if chosen { rect("frame", w + 4, h + 4) } else { String::new() };
-    let plate = rect("plate", 4 * name.len() as i64, 8);
+    let plate = rect("plate", (4 * name.len() as i64).min(w - 2), 8);
     format!(
         "<g class=\"{class}\"><title>{title}</title>{}{plate}{frame}<text class=\"name\" x=\"{x}\" y=\"{}\">{name}</text></g>\n",
         rect("box", w, h),
@@ -173,23 +184,34 @@ fn labelled_box(x: i64, y: i64, (w, h): (i64, i64), class: &str, name: &str, tit
     )
 }
 
-/// A sample of each sort of box, with what it means.
-fn legend(y: i64, pairs: &Pairs) -> String {
-    let mut samples: Vec<(&str, String, bool)> = vec![
-        ("made", "made here".into(), false),
-        ("executed", "executed here".into(), false),
-        ("waiting", "waiting here".into(), false),
+/// A sort of box in the legend: its class, half its width, what it means, and whether it is framed.
+type Sample = (&'static str, i64, String, bool);
+
+/// The sorts of boxes in the picture.
+fn samples(layout: &Layout, pairs: &Pairs) -> Vec<Sample> {
+    let mut samples: Vec<Sample> = vec![
+        ("made", 20, "made here".into(), false),
+        ("executed", 20, "executed here".into(), false),
+        ("waiting", 20, "waiting here".into(), false),
     ];
     if let Some((mark, _)) = pairs {
-        samples.push(("made", format!("mark {mark}"), true));
-        samples.push(("made apart", format!("concurrent with {mark}"), false));
+        samples.push(("made", 20, format!("mark {mark}"), true));
+        samples.push(("made apart", 20, format!("concurrent with {mark}"), false));
     }
+    if layout.shown.iter().any(is_click) {
+        samples.push(("executed", least_width("a.n"), "a click".into(), false));
+    }
+    samples
+}
+
+/// A sample of each sort of box, with what it means.
+fn legend(y: i64, samples: &[Sample]) -> String {
     let mut legend = String::new();
     let mut under = y;
-    for (i, (class, meaning, chosen)) in samples.iter().enumerate() {
-        let x = 40 + 180 * (i as i64 % 3);
-        under = y + LEGEND * (i as i64 / 3);
-        legend += &labelled_box(x, under, (20, 10), class, "a.n", meaning, *chosen);
+    for (i, (class, width, meaning, chosen)) in samples.iter().enumerate() {
+        let x = 40 + 180 * (i % SAMPLES) as i64;
+        under = y + LEGEND * (i / SAMPLES) as i64;
+        legend += &labelled_box(x, under, (*width, 10), class, "a.n", meaning, *chosen);
         let _ = writeln!(legend, "<text x=\"{}\" y=\"{}\">{meaning}</text>", x + 32, under + 5);
     }
     let note = "Each desk from left to right in its own order. An arrow runs from each entry of a stamp to its mark.";
