@@ -56,7 +56,7 @@ fn is_click(shown: &Shown) -> bool {
     shown.mark.extent.start == shown.mark.extent.end
 }
 
-/// Half the width of a click's box: as its name needs, and below that of every other box.
+/// Half the width of a click's box: as its name needs, and less than that of every other box.
 fn least_width(name: &str) -> i64 {
     (4 * name.len() as i64).min(21)
 }
