@@ -6,7 +6,7 @@ use mathlib.Core.Path.{_≡_, refl}
 use Prim.Native.Nat.{ℕ}
 use Rattle.causality.specs.declared.MarkId.{MarkId}
 use Rattle.causality.specs.Meaning.{idOf}
-use Rattle.rows.specs.View.{boxAt}
+use Rattle.rows.specs.View.{carriedAt}
 use Rattle.executed.specs.Arrays.{Lending}
 use Rattle.waiting.specs.declared.Waiting.{Waiting}
 use Rattle.pairs.specs.Pairs.{filled}
@@ -31,11 +31,11 @@ module _ (count : ℕ) (ds ns ss ts ls bf : RefT (List ℕ)) (m : MarkId) where
   abbrev pub Finds : ℕ → ApartList → Type 0
   Finds room found = OfCount count (still ds) (still ns) (still ss) (still ts) (still ls) (still bf) (λ st. ApartFound st (idOf m) room found)
 
-  abbrev pub deskBy : ℕ → List ℕ × List ℕ → Waiting → Desk
+  abbrev pub deskBy : ℕ → List ℕ × List ℕ × List ℕ → Waiting → Desk
   deskBy own rest q = deskOf own (apartLent count ds ns ss ts ls bf rest) q
 
-  pub found-in : (room : ℕ) (found : ApartList) → Finds room found → (own : ℕ) (rest : List ℕ × List ℕ) (q : Waiting) → Kept (deskBy own rest q) → ApartFound (stateOf (deskBy own rest q)) (idOf m) room found
-  found-in room found e own rest q k = e own (boxAt (rest .0)) ((stateOf (deskBy own rest q)) .waiting) (kept-lent (deskBy own rest q) k) (kept-sound (deskBy own rest q) k)
+  pub found-in : (room : ℕ) (found : ApartList) → Finds room found → (own : ℕ) (rest : List ℕ × List ℕ × List ℕ) (q : Waiting) → Kept (deskBy own rest q) → ApartFound (stateOf (deskBy own rest q)) (idOf m) room found
+  found-in room found e own rest q k = e own (carriedAt (rest .0) (rest .1)) ((stateOf (deskBy own rest q)) .waiting) (kept-lent (deskBy own rest q) k) (kept-sound (deskBy own rest q) k)
 
   pub lent-export : (out after : List MarkId) (found : ApartList) (r : ApartAnswer)
       → Finds (length out) found → after ≡ filled out (found .list) (found .list .count) → countedNumbers (found .answer) ≡ (r .refusal, r .count) → ApartExport (apartLent count ds ns ss ts ls bf) m out after r

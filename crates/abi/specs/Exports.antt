@@ -3,9 +3,11 @@ use mathlib.Core.Path.{_≡_}
 use mathlib.Core.List.{List}
 use Prim.Native.Nat.{ℕ}
 use lib.ListN.{length}
-use Rattle.frame.specs.Frame.{ours, reading, readFields, readEntries, writing, writeSize, writeBytes}
+use Rattle.frame.specs.Frame.{reading, readFields, readEntries, writing, writeSize, writeBytes}
+use Rattle.frame.specs.Mark.{desks}
 use Rattle.frame.specs.declared.Fields.{Fields}
 use Rattle.frame.specs.declared.MarkBox.{MarkBox}
+use Rattle.frame.specs.declared.Past.{Past}
 use Rattle.frame.specs.declared.Reading.{Reading}
 use Rattle.frame.specs.declared.Writing.{Writing}
 use Rattle.causality.specs.declared.Counted.{Counted}
@@ -18,7 +20,7 @@ use Rattle.causality.specs.declared.Related.{Related}
 use Rattle.executed.specs.Arrays.{Arrays, Lending}
 use Rattle.waiting.specs.declared.Waiting.{Waiting}
 use Rattle.desk.specs.Lent.{EachDesk, Marking, Receiving}
-use Rattle.desk.specs.Promises.{NewPromise, RelatePromise, ApartPromise, FirstApartPromise, FrameAgainPromise}
+use Rattle.desk.specs.Promises.{NewPromise, RelatePromise, ApartPromise, FirstApartPromise, FrameAgainPromise, ToSecondPromise, ToFirstPromise}
 use Rattle.numbers.specs.Numbers.{createdNumber, markedNumbers, receivedNumbers, relatedNumbers, countedNumbers, lowestNumbers, writtenNumbers, readNumbers}
 use Rattle.numbers.specs.declared.ApartAnswer.{ApartAnswer}
 use Rattle.numbers.specs.declared.FirstAnswer.{FirstAnswer}
@@ -69,16 +71,31 @@ pub record AgainExport {A : Type 0} (lent : A → Arrays) (a : MarkId) (out afte
   pub numbers : writtenNumbers answer ≡ (r .refusal, r .size)
   pub promise : EachDesk lent (λ d. FrameAgainPromise d a out after (record { desk = d; answer = answer }))
 
+pub record ToSecondExport {A : Type 0} (lent : A → Arrays) (s out after : List ℕ) (r : WriteAnswer) : Type 0 where
+  pub answer : Writing
+  pub numbers : writtenNumbers answer ≡ (r .refusal, r .size)
+  pub promise : EachDesk lent (λ d. ToSecondPromise d s out after (record { desk = d; answer = answer }))
+
 -- FRAMES
+
+pub record ToFirstExport (s out after : List ℕ) (r : WriteAnswer) : Type 0 where
+  pub answer : Writing
+  pub numbers : writtenNumbers answer ≡ (r .refusal, r .size)
+  pub promise : ToFirstPromise s out after answer
+
+-- The fields of these values.
+abbrev pub fieldsNamed : ℕ → ℕ → ℕ → ℕ → ℕ → ℕ → Past → Fields
+fieldsNamed desk number start end low high past =
+    record { desk = desk; number = record { 0 = number }; extent = record { start = start; end = end; low = low; high = high }; past = past }
 
 pub record ReadExport (s : List ℕ) (r : ReadAnswer) : Type 0 where
   pub answer : Reading
-  pub numbers : readNumbers answer ≡ (r .refusal, r .desk, r .number, r .extent)
-  pub fields : reading answer ≡ readFields ours s
-  pub entries : r .entries ≡ length (readEntries ours s)
+  pub numbers : readNumbers answer ≡ (r .refusal, r .desk, r .number, r .extent, r .edition, r .past)
+  pub fields : reading answer ≡ readFields desks s
+  pub entries : r .entries ≡ length (readEntries desks s)
 
 pub record WriteExport (f : Fields) (entries out after : List ℕ) (r : WriteAnswer) : Type 0 where
   pub answer : Writing
   pub numbers : writtenNumbers answer ≡ (r .refusal, r .size)
-  pub size : writing answer ≡ writeSize ours f entries (length out)
-  pub bytes : after ≡ writeBytes ours f entries out
+  pub size : writing answer ≡ writeSize desks f entries (length out)
+  pub bytes : after ≡ writeBytes desks f entries out

@@ -31,6 +31,7 @@ pub extern "C" fn kaungimewe_mark_lent(
     desks: &mut [u8; PLACES],
     numbers: &mut [u16; PLACES],
     boxes: &mut [u32; PLACES * BOX],
+    pasts: &mut [u16; PLACES],
     stamps: &mut [u16; PLACES * WIDTH],
     tally: &mut [u16; WIDTH],
     heads: &mut [u16; WIDTH],
@@ -43,9 +44,9 @@ pub extern "C" fn kaungimewe_mark_lent(
     high: u32,
     out: &mut [u8],
 ) -> MarkAnswer
-    requires { ⌜ MarkLent own waiting (here count desks numbers boxes stamps tally heads last before) ⌝ }
-    ensures { λ r. ⌜ MarkExport own waiting (found count desks numbers boxes stamps tally heads last before)
-        (left count desks numbers boxes stamps tally heads last before) (record { start = start; end = end; low = low; high = high }) out r ⌝ }
+    requires { ⌜ MarkLent own waiting (here count desks numbers boxes pasts stamps tally heads last before) ⌝ }
+    ensures { λ r. ⌜ MarkExport own waiting (found count desks numbers boxes pasts stamps tally heads last before)
+        (left count desks numbers boxes pasts stamps tally heads last before) (record { start = start; end = end; low = low; high = high }) out r ⌝ }
 {
     let extent = MarkBox {
         start: start,
@@ -59,6 +60,7 @@ pub extern "C" fn kaungimewe_mark_lent(
         desks,
         numbers,
         boxes,
+        pasts,
         stamps,
         tally,
         heads,

@@ -1,4 +1,4 @@
-// Relate, Apart, First apart and Frame again over a desk's lent arrays.
+// Relate, Apart, First apart, Frame again and the converter from 1 to 2 over a desk's lent arrays.
 ghost use mathlib.Core.Path.{_≡_};
 ghost use Rattle.causality.specs.Meaning.{idOf};
 ghost use Rattle.concurrent.specs.Found.{ApartFound};
@@ -6,7 +6,7 @@ ghost use Rattle.queries.specs.Lent.{OfCount};
 ghost use Rattle.executed.specs.Rows.{Lent};
 ghost use Rattle.in_place.specs.Lent.{SomeDesk, againLent};
 ghost use Rattle.desk.specs.Lent.{queryLent, apartLent};
-ghost use Rattle.abi.specs.Exports.{markId, RelateExport, ApartExport, FirstExport, AgainExport};
+ghost use Rattle.abi.specs.Exports.{markId, RelateExport, ApartExport, FirstExport, AgainExport, ToSecondExport};
 ghost use Rattle.numbers.specs.Numbers.{countedNumbers};
 use causality::MarkId;
 use concurrent::ApartList;
@@ -165,6 +165,7 @@ pub extern "C" fn kaungimewe_frame_again_lent<'a>(
     desks: &'a [u8; PLACES],
     numbers: &'a [u16; PLACES],
     boxes: &'a [u32; PLACES * BOX],
+    pasts: &'a [u16; PLACES],
     stamps: &'a [u16; PLACES * WIDTH],
     tally: &'a [u16; WIDTH],
     last: &'a [u16; WIDTH],
@@ -173,21 +174,54 @@ pub extern "C" fn kaungimewe_frame_again_lent<'a>(
     n: u16,
     out: &mut [u8],
 ) -> WriteAnswer
-    requires { ⌜ SomeDesk (againLent desks numbers boxes stamps tally last before) ⌝ }
+    requires { ⌜ SomeDesk (againLent desks numbers boxes pasts stamps tally last before) ⌝ }
     ensures { λ r. ⌜ AgainExport
-        (againLent (desks .entry) (numbers .entry) (boxes .entry) (stamps .entry) (tally .entry) (last .entry) (before .entry)) (markId a n)
-        (now (out .entry)) (now (out .exit)) r ⌝ }
+        (againLent (desks .entry) (numbers .entry) (boxes .entry) (pasts .entry) (stamps .entry) (tally .entry) (last .entry) (before .entry))
+        (markId a n) (now (out .entry)) (now (out .exit)) r ⌝ }
 {
     let again = named(a, n);
     numbers::written(in_place::frame_again::write_again(
         desks,
         numbers,
         boxes,
+        pasts,
         stamps,
         tally,
         last,
         before,
         again,
+        out,
+    ))
+}
+
+#[no_mangle]
+pub extern "C" fn kaungimewe_to2_lent<'a>(
+    desks: &'a [u8; PLACES],
+    numbers: &'a [u16; PLACES],
+    boxes: &'a [u32; PLACES * BOX],
+    pasts: &'a [u16; PLACES],
+    stamps: &'a [u16; PLACES * WIDTH],
+    tally: &'a [u16; WIDTH],
+    last: &'a [u16; WIDTH],
+    before: &'a [u16; PLACES],
+    frame: &[u8],
+    out: &mut [u8],
+) -> WriteAnswer
+    requires { ⌜ SomeDesk (againLent desks numbers boxes pasts stamps tally last before) ⌝ }
+    ensures { λ r. ⌜ ToSecondExport
+        (againLent (desks .entry) (numbers .entry) (boxes .entry) (pasts .entry) (stamps .entry) (tally .entry) (last .entry) (before .entry))
+        (now (frame .entry)) (now (out .entry)) (now (out .exit)) r ⌝ }
+{
+    numbers::written(in_place::convert::to_second(
+        desks,
+        numbers,
+        boxes,
+        pasts,
+        stamps,
+        tally,
+        last,
+        before,
+        frame,
         out,
     ))
 }

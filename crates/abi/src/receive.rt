@@ -16,6 +16,7 @@ pub extern "C" fn kaungimewe_receive_lent(
     desks: &mut [u8; PLACES],
     numbers: &mut [u16; PLACES],
     boxes: &mut [u32; PLACES * BOX],
+    pasts: &mut [u16; PLACES],
     stamps: &mut [u16; PLACES * WIDTH],
     tally: &mut [u16; WIDTH],
     heads: &mut [u16; WIDTH],
@@ -25,13 +26,15 @@ pub extern "C" fn kaungimewe_receive_lent(
     wdesks: &mut [u8; WAITING],
     wnumbers: &mut [u16; WAITING],
     wboxes: &mut [u32; WAITING * BOX],
+    wpasts: &mut [u16; WAITING],
     wstamps: &mut [u16; WAITING * WIDTH],
     frame: &[u8],
 ) -> ReceiveAnswer
-    requires { ⌜ KeptIn own (here count desks numbers boxes stamps tally heads last before) (heldHere waiting wdesks wnumbers wboxes wstamps) ⌝ }
+    requires { ⌜ KeptIn own (here count desks numbers boxes pasts stamps tally heads last before) (heldHere waiting wdesks wnumbers wboxes wpasts wstamps) ⌝ }
     ensures { λ r. ⌜ ReceiveExport own
-        (found count desks numbers boxes stamps tally heads last before) (heldFound waiting wdesks wnumbers wboxes wstamps)
-        (left count desks numbers boxes stamps tally heads last before) (heldLeft waiting wdesks wnumbers wboxes wstamps) (now (frame .entry)) r ⌝ }
+        (found count desks numbers boxes pasts stamps tally heads last before) (heldFound waiting wdesks wnumbers wboxes wpasts wstamps)
+        (left count desks numbers boxes pasts stamps tally heads last before) (heldLeft waiting wdesks wnumbers wboxes wpasts wstamps)
+        (now (frame .entry)) r ⌝ }
 {
     numbers::received(in_place::receive::receiving(
         own,
@@ -39,6 +42,7 @@ pub extern "C" fn kaungimewe_receive_lent(
         desks,
         numbers,
         boxes,
+        pasts,
         stamps,
         tally,
         heads,
@@ -48,6 +52,7 @@ pub extern "C" fn kaungimewe_receive_lent(
         wdesks,
         wnumbers,
         wboxes,
+        wpasts,
         wstamps,
         frame,
     ))

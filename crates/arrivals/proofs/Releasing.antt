@@ -9,13 +9,14 @@ use mathlib.Core.Logic.{inl, inr}
 use mathlib.Core.Option.{none, some}
 use mathlib.Core.Path.{_≡_, refl, subst}
 use native.Mathlib.Omega.{arith}
+use Rattle.frame.specs.declared.Past.the-variants.{Unsaid}
 use Rattle.frame.specs.Mark.{desks}
 use Rattle.causality.specs.Calls.{FromCalls, full, release}
 use Rattle.causality.specs.Marks.{All, has, lowest, places, same, without}
-use Rattle.causality.specs.State.{Mark, State, falseStamp, ids, markId, ready}
+use Rattle.causality.specs.State.{Mark, State, falseStamp, ids, markId, ready, reckoned}
 use Rattle.causality.proofs.Cases.{Arrives}
 use Rattle.causality.proofs.Fit.{Fit}
-use Rattle.causality.proofs.Kept.{kept}
+use Rattle.causality.proofs.Kept.{count-fit, fit-with, kept}
 use Rattle.causality.proofs.Lists.{InList, Picked, all-map, lowest-in, lowest-picked, without-all, without-lt}
 use Rattle.causality.proofs.Logic.{or-cases, same-refl, same→eq}
 use Rattle.causality.proofs.Reach.{Sound, execute-reach, follows-of}
@@ -23,7 +24,7 @@ use Rattle.waiting.proofs.DistinctLaws.{distinct-without, waiting-distinct}
 use Rattle.arrivals.specs.Steps.{Between}
 
 pub turn-executed : (l ws : List Mark) (turns k f : ℕ) (w : Mark) → lowest markId (ready l) ws ≡ some w → falseStamp l w ≡ false
-    → release (suc turns) l ws k f ≡ release turns (w ∷ l) (without markId (w .id) ws) (suc k) f
+    → release (suc turns) l ws k f ≡ release turns (reckoned l w ∷ l) (without markId (w .id) ws) (suc k) f
 turn-executed l ws turns k f w e e′ = rw (e, release) (rw e′)
 
 pub turn-dropped : (l ws : List Mark) (turns k f : ℕ) (w : Mark) → lowest markId (ready l) ws ≡ some w → falseStamp l w ≡ true
@@ -42,8 +43,8 @@ module _ (l ws : List Mark) (w : Mark) (m : Between l ws) (e : lowest markId (re
   pub next-ready : T (ready l w)
   next-ready = (subst (Picked (Fit desks) (ready l)) e (lowest-picked (Fit desks) (ready l) ws (m .waiting))) .1
 
-  fresh : T (not (has (w .id) (ids l)))
-  fresh = (subst (Picked (λ v. T (not (has (v .id) (ids l)))) (ready l)) e (lowest-picked (λ v. T (not (has (v .id) (ids l)))) (ready l) ws (m .fresh))) .0
+  pub next-fresh : T (not (has (w .id) (ids l)))
+  next-fresh = (subst (Picked (λ v. T (not (has (v .id) (ids l)))) (ready l)) e (lowest-picked (λ v. T (not (has (v .id) (ids l)))) (ready l) ws (m .fresh))) .0
 
   shorter : length (without markId (w .id) ws) < length ws
   shorter = without-lt markId (w .id) ws (subst (InList markId ws) e (lowest-in markId (ready l) ws))
@@ -61,10 +62,10 @@ module _ (l ws : List Mark) (w : Mark) (m : Between l ws) (e : lowest markId (re
         waiting = all-map (λ v x. x .0) (without markId (w .id) ws) (without-all (Fit desks) (w .id) ws (m .waiting));
       }
 
-  pub next-sound : falseStamp l w ≡ false → Sound (w ∷ l)
-  next-sound t = (follows-of l w (m .sound) (next-fit .range .first) fresh next-ready t, m .sound)
+  pub next-sound : falseStamp l w ≡ false → Sound (reckoned l w ∷ l)
+  next-sound t = (follows-of l w (m .sound) (next-fit .range .first) next-fresh next-ready t, m .sound)
 
-  pub between-executed : falseStamp l w ≡ false → Between (w ∷ l) (without markId (w .id) ws)
+  pub between-executed : falseStamp l w ≡ false → Between (reckoned l w ∷ l) (without markId (w .id) ws)
   between-executed t =
       let room = m .room in
       let s = shorter in
@@ -73,7 +74,7 @@ module _ (l ws : List Mark) (w : Mark) (m : Between l ws) (e : lowest markId (re
         fresh = all-map other (without markId (w .id) ws) (without-all (λ v. T (not (has (v .id) (ids l)))) (w .id) ws (m .fresh));
         distinct = distinct-without (w .id) ws (m .distinct);
         room = omega arith;
-        executed = (next-fit, m .executed);
+        executed = (count-fit desks (omega arith) (reckoned l w) l (next-sound t) (omega arith) (fit-with desks (omega arith) w Unsaid next-fit refl), m .executed);
         waiting = between-dropped .waiting;
       }
     where
@@ -85,7 +86,7 @@ module _ (l ws : List Mark) (w : Mark) (m : Between l ws) (e : lowest markId (re
 
 -- A kept desk after the execution of a mark that arrived.
 pub between-arrived : (st : State) (m : Mark) → FromCalls desks st → Fit desks m → Arrives st m → ready (st .executed) m ≡ true → falseStamp (st .executed) m ≡ false
-    → Between (m ∷ st .executed) (st .waiting)
+    → Between (reckoned (st .executed) m ∷ st .executed) (st .waiting)
 unfolding full
 between-arrived st m c f a b g =
     let k = kept desks (omega arith) c in
@@ -97,6 +98,6 @@ between-arrived st m c f a b g =
       fresh = all-map (λ v x. x .fresh) (st .waiting) (r .wait);
       distinct = waiting-distinct desks c;
       room = omega arith;
-      executed = (f, k .executed);
+      executed = (count-fit desks (omega arith) (reckoned (st .executed) m) (st .executed) (r .sound) (omega arith) (fit-with desks (omega arith) m Unsaid f refl), k .executed);
       waiting = k .waiting;
     }

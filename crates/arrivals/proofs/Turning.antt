@@ -9,93 +9,118 @@ use mathlib.Core.Path.{_∙_, _≡_, ap, refl, subst, sym}
 use native.Mathlib.Omega.{arith}
 use Rattle.frame.specs.Mark.{MarkId, desks}
 use Rattle.causality.specs.Calls.{Release, release}
-use Rattle.causality.specs.Marks.{All, lowest, places, tally, waitingPlaces, without}
-use Rattle.causality.specs.State.{Mark, falseStamp, ids, markId, ready}
+use Rattle.causality.specs.Marks.{All, has, lowest, places, tally, waitingPlaces, without}
+use Rattle.causality.specs.State.{Mark, falseStamp, ids, markId, ready, reckoned, withPast}
 use Rattle.causality.proofs.Fit.{Fit}
+use Rattle.causality.proofs.Logic.{nT→eq}
 use Rattle.causality.proofs.Reach.{sound-counted}
-use Rattle.rows.specs.View.{Named, boxAt, heldMark, markAt, placeAt, view, width}
+use Rattle.rows.specs.View.{Named, carriedAt, heldId, heldMark, heldWith, markAt, pastFrom, placeAt, view, width}
 use Rattle.rows.specs.declared.Held.{Held}
 use Rattle.rows.proofs.Arrays.{view-length}
 use Rattle.rows.proofs.ByRows.{row-at}
+use Rattle.rows.proofs.Places.{ids-names}
 use Rattle.executed.specs.Arrays.{Arrays, Takes, Took, executedIn}
 use Rattle.waiting.specs.Queue.{LowestAt, Queued, Removed, TallyOf, waitingIn}
 use Rattle.waiting.specs.declared.Waiting.{Waiting}
 use Rattle.waiting.proofs.UseLaws.{fit-named, slot-found, slot-missed}
+use Rattle.verdict.specs.Judgement.{ReadyIn}
 use Rattle.arrivals.specs.declared.Released.{Released}
 use Rattle.arrivals.specs.Steps.{Between, IsNext, Midway, ReleasePromise, Turned, Turns, droppedBy, executedBy}
-use Rattle.arrivals.proofs.Releasing.{between-dropped, between-executed, next-fit, next-ready, next-sound, rests, turn-dropped, turn-executed}
+use Rattle.arrivals.proofs.Releasing.{between-dropped, between-executed, next-fit, next-fresh, next-ready, next-sound, rests, turn-dropped, turn-executed}
 
 -- As many marks as the counts say.
 pub executed-many : (a : Arrays) → length (executedIn a) ≡ a .count
-executed-many a = view-length width (a .count) (a .desks) (a .numbers) (boxAt (a .boxes)) (a .stamps)
+executed-many a = view-length width (a .count) (a .desks) (a .numbers) (carriedAt (a .boxes) (a .pasts)) (a .stamps)
 
 pub waiting-many : (q : Waiting) → length (waitingIn q) ≡ q .count
-waiting-many q = view-length width (q .count) (q .desks) (q .numbers) (boxAt (q .boxes)) (q .stamps)
+waiting-many q = view-length width (q .count) (q .desks) (q .numbers) (carriedAt (q .boxes) (q .pasts)) (q .stamps)
 
 -- What the calls in the loop ask for.
 module _ (a : Arrays) (q : Waiting) (m : Midway a q) where
   pub mid-named : Named width (a .count) (a .desks)
-  mid-named = fit-named width (a .count) (a .desks) (a .numbers) (boxAt (a .boxes)) (a .stamps) (m .between .executed)
+  mid-named = fit-named width (a .count) (a .desks) (a .numbers) (carriedAt (a .boxes) (a .pasts)) (a .stamps) (m .between .executed)
 
   pub mid-count : a .count ≤ places
   mid-count = let r = m .between .room in let e = executed-many a in omega arith
 
   pub held-named : Named width (q .count) (q .desks)
-  held-named = fit-named width (q .count) (q .desks) (q .numbers) (boxAt (q .boxes)) (q .stamps) (m .between .waiting)
+  held-named = fit-named width (q .count) (q .desks) (q .numbers) (carriedAt (q .boxes) (q .pasts)) (q .stamps) (m .between .waiting)
 
   -- The slot that the readiness test chose.
   pub is-next : (i : ℕ) → LowestAt (a .tally) (q .count) (q .desks) (q .numbers) (q .stamps) i → IsNext a q i
-  is-next i w = w .mark (executedIn a) (boxAt (q .boxes)) (record {
+  is-next i w = w .mark (executedIn a) (carriedAt (q .boxes) (q .pasts)) (record {
     counted = sound-counted (executedIn a) (m .between .sound);
     tallied = row-at width (a .tally) (λ e. tally e (ids (executedIn a))) (m .ordered .rows .tally);
   })
 
 -- ONE TURN: the mark h of slot i is taken out
 
-module _ (a : Arrays) (q : Waiting) (i : ℕ) (t : Turns a q i) (h : Held) (eh : heldMark h ≡ markAt width (q .desks) (q .numbers) (boxAt (q .boxes)) (q .stamps) i) where
+module _ (a : Arrays) (q : Waiting) (i : ℕ) (t : Turns a q i) (h : Held) (eh : heldMark h ≡ markAt width (q .desks) (q .numbers) (carriedAt (q .boxes) (q .pasts)) (q .stamps) i) where
   m : Midway a q
   m = t .midway
 
   chosen : lowest markId (ready (executedIn a)) (waitingIn q) ≡ some (heldMark h)
-  chosen = slot-found width (q .count) (q .desks) (q .numbers) (boxAt (q .boxes)) (q .stamps) i _ (t .next) (t .slot) ∙ ap some (sym eh)
+  chosen = slot-found width (q .count) (q .desks) (q .numbers) (carriedAt (q .boxes) (q .pasts)) (q .stamps) i _ (t .next) (t .slot) ∙ ap some (sym eh)
 
-  pub turn-range : (1 ≤ h .desk) × (h .desk ≤ width)
-  turn-range = let f = next-fit (executedIn a) (waitingIn q) (heldMark h) (m .between) chosen in (f .range .low, f .range .high)
+  pub turn-fit : Fit desks (heldMark h)
+  turn-fit = next-fit (executedIn a) (waitingIn q) (heldMark h) (m .between) chosen
 
-  pub turn-ready : T (ready (executedIn a) (heldMark h))
-  turn-ready = next-ready (executedIn a) (waitingIn q) (heldMark h) (m .between) chosen
+  pub turn-is-ready : T (ready (executedIn a) (heldMark h))
+  turn-is-ready = next-ready (executedIn a) (waitingIn q) (heldMark h) (m .between) chosen
 
-  pub turn-takes : falseStamp (executedIn a) (heldMark h) ≡ false → Takes h a
-  turn-takes e =
-      let r = m .between .room in
-      let x = executed-many a in
-      let y = waiting-many q in
-      let z = t .slot in
-      record {
-        ordered = m .ordered;
-        room = omega arith;
-        low = turn-range .0;
-        high = turn-range .1;
-        sound = next-sound (executedIn a) (waitingIn q) (heldMark h) (m .between) chosen e;
-      }
+  pub turn-ready : ReadyIn (a .tally) (a .count) (a .desks) (a .numbers) (a .stamps) h
+  turn-ready = record {
+    new = record {
+      marks = record {
+        carried = carriedAt (a .boxes) (a .pasts);
+        sound = m .between .sound;
+        long = m .ordered .rows .long-tally;
+        tallied = row-at width (a .tally) (λ e. tally e (ids (executedIn a))) (m .ordered .rows .tally);
+      };
+      fresh = ap (has (heldId h)) (sym (ids-names width (a .desks) (a .numbers) (carriedAt (a .boxes) (a .pasts)) (a .stamps) (a .count)))
+          ∙ nT→eq _ (next-fresh (executedIn a) (waitingIn q) (heldMark h) (m .between) chosen);
+    };
+    ready = turn-is-ready;
+  }
 
-  module _ (r : Waiting) (x : Removed i q r) where
-    others : waitingIn r ≡ without markId (heldMark h .id) (waitingIn q)
-    others = x .marks (m .between .distinct) ∙ ap (λ (k : Mark). without markId (k .id) (waitingIn q)) (sym eh)
+  others : (r : Waiting) → Removed i q r → waitingIn r ≡ without markId (heldMark h .id) (waitingIn q)
+  others r x = x .marks (m .between .distinct) ∙ ap (λ (k : Mark). without markId (k .id) (waitingIn q)) (sym eh)
 
-    pub turn-dropped-is : falseStamp (executedIn a) (heldMark h) ≡ true → Turned a q a r false
-    turn-dropped-is e = record {
-      midway = record { between = rw others (between-dropped (executedIn a) (waitingIn q) (heldMark h) (m .between) chosen); ordered = m .ordered; queued = x .queued };
-      one = x .one;
-      turn = λ turns k f. turn-dropped (executedIn a) (waitingIn q) turns k f (heldMark h) chosen e ∙ ap (λ (ws : List Mark). release turns (executedIn a) ws k (suc f)) (sym others);
-    }
+  pub turn-dropped-is : falseStamp (executedIn a) (heldMark h) ≡ true → (r : Waiting) → Removed i q r → Turned a q a r false
+  turn-dropped-is e r x = let o = others r x in record {
+    midway = record { between = rw o (between-dropped (executedIn a) (waitingIn q) (heldMark h) (m .between) chosen); ordered = m .ordered; queued = x .queued };
+    one = x .one;
+    turn = λ turns k f. turn-dropped (executedIn a) (waitingIn q) turns k f (heldMark h) chosen e ∙ ap (λ (ws : List Mark). release turns (executedIn a) ws k (suc f)) (sym o);
+  }
 
-    pub turn-executed-is : falseStamp (executedIn a) (heldMark h) ≡ false → (b : Arrays) → Took h a b → Turned a q b r true
-    turn-executed-is e b y = record {
-      midway = record { between = rw (y .marks, others) (between-executed (executedIn a) (waitingIn q) (heldMark h) (m .between) chosen e); ordered = y .ordered; queued = x .queued };
-      one = x .one;
-      turn = λ turns k f. turn-executed (executedIn a) (waitingIn q) turns k f (heldMark h) chosen e ∙ (λ j. release turns (sym (y .marks) j) (sym others j) (suc k) f);
-    }
+  -- Its stamp is not false, and the past kept is the reckoning.
+  module _ (e : falseStamp (executedIn a) (heldMark h) ≡ false) (past : ℕ) (ep : pastFrom past ≡ reckoned (executedIn a) (heldMark h) .past) where
+    as-reckoned : heldMark (heldWith h past) ≡ reckoned (executedIn a) (heldMark h)
+    as-reckoned = ap (withPast (heldMark h)) ep
+
+    pub turn-takes : Takes (heldWith h past) a
+    turn-takes =
+        let r = m .between .room in
+        let x = executed-many a in
+        let y = waiting-many q in
+        let z = t .slot in
+        record {
+          ordered = m .ordered;
+          room = omega arith;
+          low = turn-fit .range .low;
+          high = turn-fit .range .high;
+          sound = rw as-reckoned (next-sound (executedIn a) (waitingIn q) (heldMark h) (m .between) chosen e);
+        }
+
+    pub turn-executed-is : (r : Waiting) → Removed i q r → (b : Arrays) → Took (heldWith h past) a b → Turned a q b r true
+    turn-executed-is r x b y =
+        let o = others r x in
+        let l = y .marks ∙ ap (λ (v : Mark). v ∷ executedIn a) as-reckoned in
+        record {
+          midway = record { between = rw (l, o) (between-executed (executedIn a) (waitingIn q) (heldMark h) (m .between) chosen e); ordered = y .ordered; queued = x .queued };
+          one = x .one;
+          turn = λ turns k f. turn-executed (executedIn a) (waitingIn q) turns k f (heldMark h) chosen e ∙ (λ j. release turns (sym l j) (sym o j) (suc k) f);
+        }
 
 -- The counts after a turn.
 pub counts-executed : (x : Bool) → x ≡ true → (k f k′ f′ : ℕ) → k′ ≡ k + 1 → f′ ≡ f → (k′ ≡ executedBy x k) × (f′ ≡ droppedBy x f)
@@ -147,5 +172,5 @@ module _ (a₀ : Arrays) (q₀ : Waiting) (a : Arrays) (q : Waiting) (i k f : �
     ordered = w .midway .ordered;
     queued = w .midway .queued;
     end = (λ j. record { executed = executedIn a; waiting = waitingIn q; k = ek j; f = ef j })
-        ∙ sym (rests (executedIn a) (waitingIn q) (q .count) k f (slot-missed width (q .count) (q .desks) (q .numbers) (boxAt (q .boxes)) (q .stamps) i _ (w .next) l)) ∙ w .end;
+        ∙ sym (rests (executedIn a) (waitingIn q) (q .count) k f (slot-missed width (q .count) (q .desks) (q .numbers) (carriedAt (q .boxes) (q .pasts)) (q .stamps) i _ (w .next) l)) ∙ w .end;
   }

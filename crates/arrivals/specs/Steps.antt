@@ -8,12 +8,12 @@ use lib.ListN.{length}
 use Rattle.frame.specs.Mark.{desks}
 use Rattle.causality.specs.Marks.{places, All, has, lowest}
 use Rattle.causality.specs.State.{Mark, markId, ids, ready}
-use Rattle.causality.specs.Calls.{Release, frameOfMark, receiveMark, release}
+use Rattle.causality.specs.Calls.{Release, receiveMark, release}
 use Rattle.causality.specs.Meaning.{reception}
 use Rattle.causality.specs.declared.Received.{Received}
 use Rattle.causality.proofs.Fit.{Fit}
 use Rattle.causality.proofs.Reach.{Sound}
-use Rattle.rows.specs.View.{boxAt, heldMark, placeAt, width}
+use Rattle.rows.specs.View.{carriedAt, heldMark, placeAt, width}
 use Rattle.rows.specs.declared.Held.{Held}
 use Rattle.executed.specs.Arrays.{Arrays, Ordered, executedIn}
 use Rattle.waiting.specs.Queue.{Distinct, Queued, waitingIn}
@@ -39,7 +39,8 @@ pub record Midway (a : Arrays) (q : Waiting) : Type 0 where
 
 -- Slot i has the ready waiting mark of lowest desk; i is no slot in use if none is ready.
 abbrev pub IsNext : Arrays → Waiting → ℕ → Type 0
-IsNext a q i = placeAt width (q .count) i (q .desks) (q .numbers) (boxAt (q .boxes)) (q .stamps) ≡ lowest markId (ready (executedIn a)) (waitingIn q)
+IsNext a q i =
+    placeAt width (q .count) i (q .desks) (q .numbers) (carriedAt (q .boxes) (q .pasts)) (q .stamps) ≡ lowest markId (ready (executedIn a)) (waitingIn q)
 
 pub record Turns (a : Arrays) (q : Waiting) (i : ℕ) : Type 0 where
   pub midway : Midway a q
@@ -71,7 +72,7 @@ pub record ReleasePromise (a : Arrays) (q : Waiting) (b : Arrays) (r : Waiting) 
 
 -- RECEIVE of a mark that its frame gave, from arrays a and waiting marks q to b and r
 pub record Arrived (own : ℕ) (a : Arrays) (q : Waiting) (b : Arrays) (r : Waiting) (h : Held) (answer : Received) : Type 0 where
-  pub state : stateIn own b r ≡ (receiveMark desks (stateIn own a q) (heldMark h) (frameOfMark desks (heldMark h))) .state
-  pub reply : reception answer ≡ (receiveMark desks (stateIn own a q) (heldMark h) (frameOfMark desks (heldMark h))) .answer
+  pub state : stateIn own b r ≡ (receiveMark (stateIn own a q) (heldMark h)) .state
+  pub reply : reception answer ≡ (receiveMark (stateIn own a q) (heldMark h)) .answer
   pub ordered : Ordered b
   pub queued : Queued r

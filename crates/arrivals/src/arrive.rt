@@ -21,6 +21,7 @@ pub fn arrive(
     desks: &mut [u8; PLACES],
     numbers: &mut [u16; PLACES],
     boxes: &mut [u32; PLACES * BOX],
+    pasts: &mut [u16; PLACES],
     stamps: &mut [u16; PLACES * WIDTH],
     tally: &mut [u16; WIDTH],
     heads: &mut [u16; WIDTH],
@@ -30,14 +31,15 @@ pub fn arrive(
     wdesks: &mut [u8; WAITING],
     wnumbers: &mut [u16; WAITING],
     wboxes: &mut [u32; WAITING * BOX],
+    wpasts: &mut [u16; WAITING],
     wstamps: &mut [u16; WAITING * WIDTH],
     h: Held,
 ) -> Received
-    requires { ⌜ KeptIn own (here count desks numbers boxes stamps tally heads last before) (heldHere waiting wdesks wnumbers wboxes wstamps)
+    requires { ⌜ KeptIn own (here count desks numbers boxes pasts stamps tally heads last before) (heldHere waiting wdesks wnumbers wboxes wpasts wstamps)
         × Fit width (heldMark h) ⌝ }
     ensures { λ r. ⌜ Arrived own
-        (found count desks numbers boxes stamps tally heads last before) (heldFound waiting wdesks wnumbers wboxes wstamps)
-        (left count desks numbers boxes stamps tally heads last before) (heldLeft waiting wdesks wnumbers wboxes wstamps) h r ⌝ }
+        (found count desks numbers boxes pasts stamps tally heads last before) (heldFound waiting wdesks wnumbers wboxes wpasts wstamps)
+        (left count desks numbers boxes pasts stamps tally heads last before) (heldLeft waiting wdesks wnumbers wboxes wpasts wstamps) h r ⌝ }
 {
     let at = *count;
     let held = *waiting;
@@ -47,6 +49,7 @@ pub fn arrive(
         desks,
         numbers,
         boxes,
+        pasts,
         stamps,
         tally,
         last,
@@ -55,33 +58,37 @@ pub fn arrive(
         wdesks,
         wnumbers,
         wboxes,
+        wpasts,
         wstamps,
         h,
     ) {
         Verdict::Refused(refusal) => Received::Refused(refusal),
         Verdict::Known => Received::Known,
         Verdict::Waits(short) => {
-            waiting::push(waiting, wdesks, wnumbers, wboxes, wstamps, h);
+            waiting::push(waiting, wdesks, wnumbers, wboxes, wpasts, wstamps, h);
             Received::Waiting(short)
         }
-        Verdict::Runs => {
+        Verdict::Runs(past) => {
+            let kept = rows::with_past(h, past);
             executed::execute(
                 count,
                 desks,
                 numbers,
                 boxes,
+                pasts,
                 stamps,
                 tally,
                 heads,
                 last,
                 before,
-                h,
+                kept,
             );
             let done = release::release(
                 count,
                 desks,
                 numbers,
                 boxes,
+                pasts,
                 stamps,
                 tally,
                 heads,
@@ -91,6 +98,7 @@ pub fn arrive(
                 wdesks,
                 wnumbers,
                 wboxes,
+                wpasts,
                 wstamps,
             );
             Received::Executed(done.executed, done.dropped)

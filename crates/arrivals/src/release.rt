@@ -8,12 +8,13 @@ use rows::PLACES;
 use rows::WIDTH;
 use waiting::WAITING;
 
-// One turn: the mark of slot i waits no more, and is executed unless its stamp is false. Is it executed?
+// One turn: the mark of slot i waits no more, and is executed unless its stamp is false, with its reckoning kept. Is it executed?
 fn turn(
     count: &mut usize,
     desks: &mut [u8; PLACES],
     numbers: &mut [u16; PLACES],
     boxes: &mut [u32; PLACES * BOX],
+    pasts: &mut [u16; PLACES],
     stamps: &mut [u16; PLACES * WIDTH],
     tally: &mut [u16; WIDTH],
     heads: &mut [u16; WIDTH],
@@ -23,31 +24,35 @@ fn turn(
     wdesks: &mut [u8; WAITING],
     wnumbers: &mut [u16; WAITING],
     wboxes: &mut [u32; WAITING * BOX],
+    wpasts: &mut [u16; WAITING],
     wstamps: &mut [u16; WAITING * WIDTH],
     i: usize,
 ) -> bool
-    requires { ⌜ Turns (here count desks numbers boxes stamps tally heads last before) (heldHere waiting wdesks wnumbers wboxes wstamps) i ⌝ }
+    requires { ⌜ Turns (here count desks numbers boxes pasts stamps tally heads last before) (heldHere waiting wdesks wnumbers wboxes wpasts wstamps) i ⌝ }
     ensures { λ r. ⌜ Turned
-        (found count desks numbers boxes stamps tally heads last before) (heldFound waiting wdesks wnumbers wboxes wstamps)
-        (left count desks numbers boxes stamps tally heads last before) (heldLeft waiting wdesks wnumbers wboxes wstamps) r ⌝ }
+        (found count desks numbers boxes pasts stamps tally heads last before) (heldFound waiting wdesks wnumbers wboxes wpasts wstamps)
+        (left count desks numbers boxes pasts stamps tally heads last before) (heldLeft waiting wdesks wnumbers wboxes wpasts wstamps) r ⌝ }
 {
-    let h = rows::mark_at(wdesks, wnumbers, wboxes, wstamps, i);
-    waiting::remove(waiting, wdesks, wnumbers, wboxes, wstamps, i);
+    let h = rows::mark_at(wdesks, wnumbers, wboxes, wpasts, wstamps, i);
+    waiting::remove(waiting, wdesks, wnumbers, wboxes, wpasts, wstamps, i);
     let at = *count;
-    if verdict::is_false(desks, numbers, stamps, at, h) {
+    let past = verdict::reckon(desks, numbers, stamps, tally, at, h);
+    if past == 0 {
         return false;
     }
+    let kept = rows::with_past(h, past);
     executed::execute(
         count,
         desks,
         numbers,
         boxes,
+        pasts,
         stamps,
         tally,
         heads,
         last,
         before,
-        h,
+        kept,
     );
     true
 }
@@ -58,6 +63,7 @@ pub(crate) fn release(
     desks: &mut [u8; PLACES],
     numbers: &mut [u16; PLACES],
     boxes: &mut [u32; PLACES * BOX],
+    pasts: &mut [u16; PLACES],
     stamps: &mut [u16; PLACES * WIDTH],
     tally: &mut [u16; WIDTH],
     heads: &mut [u16; WIDTH],
@@ -67,12 +73,13 @@ pub(crate) fn release(
     wdesks: &mut [u8; WAITING],
     wnumbers: &mut [u16; WAITING],
     wboxes: &mut [u32; WAITING * BOX],
+    wpasts: &mut [u16; WAITING],
     wstamps: &mut [u16; WAITING * WIDTH],
 ) -> Released
-    requires { ⌜ Midway (here count desks numbers boxes stamps tally heads last before) (heldHere waiting wdesks wnumbers wboxes wstamps) ⌝ }
+    requires { ⌜ Midway (here count desks numbers boxes pasts stamps tally heads last before) (heldHere waiting wdesks wnumbers wboxes wpasts wstamps) ⌝ }
     ensures { λ r. ⌜ ReleasePromise
-        (found count desks numbers boxes stamps tally heads last before) (heldFound waiting wdesks wnumbers wboxes wstamps)
-        (left count desks numbers boxes stamps tally heads last before) (heldLeft waiting wdesks wnumbers wboxes wstamps) r ⌝ }
+        (found count desks numbers boxes pasts stamps tally heads last before) (heldFound waiting wdesks wnumbers wboxes wpasts wstamps)
+        (left count desks numbers boxes pasts stamps tally heads last before) (heldLeft waiting wdesks wnumbers wboxes wpasts wstamps) r ⌝ }
 {
     let mut executed: u16 = 1;
     let mut dropped: u16 = 0;
@@ -85,6 +92,7 @@ pub(crate) fn release(
             desks,
             numbers,
             boxes,
+            pasts,
             stamps,
             tally,
             heads,
@@ -94,6 +102,7 @@ pub(crate) fn release(
             wdesks,
             wnumbers,
             wboxes,
+            wpasts,
             wstamps,
             i,
         ) {

@@ -10,11 +10,11 @@ use mathlib.Core.Path.{_≡_, refl}
 use Rattle.frame.specs.declared.Fields.{Fields}
 use Rattle.frame.specs.declared.MarkBox.{MarkBox}
 use Rattle.frame.specs.Answer.{Answer, gives, refused}
-use Rattle.frame.specs.Frame.{edition, readFields}
+use Rattle.frame.specs.Frame.{readFields}
 use Rattle.frame.specs.Mark.{boxRule}
 use Rattle.frame.proofs.Tests.{passes}
 use Rattle.causality.specs.Answers.{Executed, Known, Numbered, Reply, Waiting}
-use Rattle.causality.specs.Calls.{Received, arrive, executing, frameOfMark, full, ifRead, markAnswer, markIn, newMark, numbered, receive, receiveMark, refuse, sameBytes, sizeOfMark, unmade}
+use Rattle.causality.specs.Calls.{Received, arrive, executing, full, ifRead, markAnswer, markIn, newMark, numbered, receive, receiveMark, refuse, sameFields, sizeOfMark, unmade}
 use Rattle.causality.specs.Marks.{any, find, waitingPlaces}
 use Rattle.causality.specs.State.{Mark, State, falseStamp, markId, ready}
 use Rattle.causality.proofs.Missing.{short-some}
@@ -67,26 +67,26 @@ arrive-case st m here = go (full st) (ready (st .executed) m) (eqb (length (st .
     go false true c true ea eb ec eg = rw (ea, arrive) (rw eb (rw eg (stays (refused 11) (refusal 11))))
     go false true c false ea eb ec eg = rw (ea, arrive) (rw eb (rw eg (executes (here ea) eb eg)))
 
-pub receive-case : (N : ℕ) (st : State) (m : Mark) (s : List ℕ) → ReceiveCase st m (receiveMark N st m s)
+pub receive-case : (st : State) (m : Mark) → ReceiveCase st m (receiveMark st m)
 unfolding receiveMark refuse
-receive-case N st m s = go (unmade st (m .id) || any (unmade st) (m .stamp)) refl (find markId (m .id) (st .executed ++ st .waiting)) refl
+receive-case st m = go (unmade st (m .id) || any (unmade st) (m .stamp)) refl (find markId (m .id) (st .executed ++ st .waiting)) refl
   where
-    knows : (h : Mark) (b : Bool) → sameBytes (frameOfMark N h) s ≡ b
-        → ReceiveCase st m (elim (sameBytes (frameOfMark N h) s) [ true ↦ record { state = st; answer = gives Known } | false ↦ refuse st 8 ])
+    knows : (h : Mark) (b : Bool) → sameFields h m ≡ b
+        → ReceiveCase st m (elim (sameFields h m) [ true ↦ record { state = st; answer = gives Known } | false ↦ refuse st 8 ])
     knows h true e = rw e (stays (gives Known) known)
     knows h false e = rw e (stays (refused 8) (refusal 8))
 
     go : (b : Bool) → (unmade st (m .id) || any (unmade st) (m .stamp)) ≡ b → (o : Option Mark) → find markId (m .id) (st .executed ++ st .waiting) ≡ o
-        → ReceiveCase st m (receiveMark N st m s)
+        → ReceiveCase st m (receiveMark st m)
     go true e o q = rw (e, receiveMark) (stays (refused 7) (refusal 7))
     go false e none q = rw (e, receiveMark) (rw q (arrive-case st m (λ r. record { made = e; absent = q; room = r })))
-    go false e (some h) q = rw (e, receiveMark) (rw q (knows h (sameBytes (frameOfMark N h) s) refl))
+    go false e (some h) q = rw (e, receiveMark) (rw q (knows h (sameFields h m) refl))
 
 -- The same of bytes: those that the reader refuses leave the desk as it is.
 pub received-case : (N : ℕ) (st : State) (s : List ℕ) → ReceiveCase st (markIn N s) (receive N st s)
 unfolding receive refuse
-received-case N st s = go (readFields (edition N) s)
+received-case N st s = go (readFields N s)
   where
-    go : (a : Answer Fields) → ReceiveCase st (markIn N s) (ifRead a st (receiveMark N st (markIn N s) s))
-    go (gives f) = receive-case N st (markIn N s) s
+    go : (a : Answer Fields) → ReceiveCase st (markIn N s) (ifRead a st (receiveMark st (markIn N s)))
+    go (gives f) = receive-case st (markIn N s)
     go (refused c) = stays (refused c) (refusal c)

@@ -1,19 +1,21 @@
 -- The examples, computed by the calls on bytes: one check of each list. Assumes nothing.
 use Prim.Native.Nat.{_-_, ℕ}
-use lib.Dec.{T}
+use lib.Dec.{T, eqb}
 use lib.ListN.{replicate, take}
 use mathlib.Core.Bool.{Bool, _&&_, false, true}
 use mathlib.Core.List.{List, [], _++_, _∷_, reverse}
 use Rattle.frame.specs.declared.Fields.{Fields}
 use Rattle.frame.specs.declared.MarkBox.{MarkBox}
+use Rattle.frame.specs.declared.Past.{Past}
+use Rattle.frame.specs.declared.Past.the-variants.{Said, Unsaid}
 use Rattle.frame.specs.Answer.{Answer, gives, refused}
-use Rattle.frame.specs.Frame.{at2, at4, bytes2, bytes4, countBad, edition, entriesBad, entriesOf, entryBad, fieldsBad, fieldsOf, frameOf, headOf, lengthBad, outputShort, partBad, readEntries, readFields, versionBad, writeSize}
+use Rattle.frame.specs.Frame.{at2, at4, bytes2, bytes4, countBad, entriesBad, entriesOf, entryBad, fieldsBad, fieldsOf, frameOf, headOf, lengthBad, outputShort, partBad, pastIn, readEntries, readFields, versionBad, writeSize}
 use Rattle.frame.specs.Mark.{MarkId, boxRule, desks, isDesk, isNumber}
 use Rattle.causality.specs.Answers.{After, Before, Concurrent, Executed, Known, Numbered, Relation, Reply, Same, Waiting}
-use Rattle.causality.specs.Calls.{apartOf, arrive, executing, fieldsOfMark, firstApart, frameOfMark, full, mark, markAnswer, markIn, new, newMark, receive, receiveMark, refuse, relate, sameBytes, sizeOfMark, unmade}
-use Rattle.causality.specs.Examples.{clicks, pinned, short, starred}
+use Rattle.causality.specs.Calls.{apartOf, arrive, executing, fieldsOfMark, firstApart, frameAgainBytes, frameAgainSize, frameOfMark, full, mark, markAnswer, markIn, new, newMark, receive, receiveMark, refuse, relate, sameFields, sizeOfMark, toFirstBytes, toFirstMark, toFirstSize, toSecondBytes, toSecondMark, toSecondSize, unmade}
+use Rattle.causality.specs.Examples.{clicks, counted, pinned, short, starred}
 use Rattle.causality.specs.Marks.{same}
-use Rattle.causality.specs.State.{Mark, State, concurrent, falseStamp, heads, ids, isHead, lacksPrevious, missing, missingEntries, previous, ready}
+use Rattle.causality.specs.State.{Mark, State, concurrent, falseEntries, falseStamp, heads, ids, isHead, lacksPrevious, missing, missingEntries, previous, ready, reckoning}
 
 abbrev box : MarkBox
 box = record { start = 1_000; end = 1_500; low = 100; high = 400 }
@@ -23,10 +25,10 @@ id d n = record { desk = d; number = n }
 
 -- Mark at a desk, the frame that it writes, and Receive of frames in order.
 abbrev marks : State → State
-marks st = (mark desks st box (replicate 71 0)) .state
+marks st = (mark desks st box (replicate 73 0)) .state
 
 abbrev writes : State → List ℕ
-writes st = elim ((mark desks st box (replicate 71 0)) .answer) [ gives n ↦ take (n .size) ((mark desks st box (replicate 71 0)) .bytes) | refused c ↦ [] ]
+writes st = elim ((mark desks st box (replicate 73 0)) .answer) [ gives n ↦ take (n .size) ((mark desks st box (replicate 73 0)) .bytes) | refused c ↦ [] ]
 
 abbrev receives : State → List (List ℕ) → State
 receives st [] = st
@@ -66,9 +68,9 @@ f41 = writes (receives (fresh 4) (f11 ∷ f31 ∷ f32 ∷ []))
 abbrev desk3 : State
 desk3 = receives (marks (marks (fresh 3))) (f11 ∷ f21 ∷ f12 ∷ f22 ∷ f41 ∷ [])
 
--- Frames that no desk need have written: of d.n with these entries; 1.2 with an empty stamp, and 1.1.
+-- Frames that no desk need have written: of d.n with these entries, in edition 1; 1.2 with an empty stamp, and 1.1.
 abbrev frame : ℕ → ℕ → List MarkId → List ℕ
-frame d n stamp = frameOfMark desks (record { id = id d n; extent = box; stamp = stamp })
+frame d n stamp = frameOfMark (record { id = id d n; extent = box; stamp = stamp; past = Unsaid })
 
 abbrev forged : ℕ → List ℕ
 forged n = frame 1 n []
@@ -99,7 +101,7 @@ abbrev answered : State → List ℕ → List ℕ
 answered st s = reception ((receive desks st s) .answer)
 
 abbrev entries : List ℕ → List ℕ
-entries s = names (entriesOf (readEntries (edition desks) s))
+entries s = names (entriesOf (readEntries desks s))
 
 abbrev found : List (List ℕ)
 found =
@@ -166,19 +168,76 @@ numberIn (refused c) = c
 abbrev boxed : ℕ → ℕ → ℕ → ℕ → List ℕ
 boxed start end low high =
     let b : MarkBox = record { start = start; end = end; low = low; high = high } in
-    let m : Mark = record { id = id 1 1; extent = b; stamp = [] } in
-    value (sizeOfMark desks m 71) ∷ (times (readFields (edition desks) (frameOfMark desks m))
-    ++ (numberIn ((mark desks (fresh 1) b (replicate 71 0)) .answer) ∷ answered (fresh 2) (frameOfMark desks m)))
+    let m : Mark = record { id = id 1 1; extent = b; stamp = []; past = Unsaid } in
+    value (sizeOfMark desks m 71) ∷ (times (readFields desks (frameOfMark m))
+    ++ (numberIn ((mark desks (fresh 1) b (replicate 71 0)) .answer) ∷ answered (fresh 2) (frameOfMark m)))
 
 abbrev foundClicks : List (List ℕ)
 foundClicks = boxed 1_000 1_000 100 400 ∷ boxed 1_001 1_000 100 400 ∷ boxed 1_000 1_000 400 400 ∷ boxed 4_294_967_295 4_294_967_295 100 400 ∷ []
+
+abbrev count : Past → ℕ
+count Unsaid = 999
+count (Said n) = n
+
+abbrev said : List ℕ → ℕ
+said s = count (fieldsOf s .past)
+
+abbrev sized : Answer Numbered → ℕ
+sized (gives n) = n .size
+sized (refused c) = c
+
+-- 1.1 with no entries, and 1.2 with (1,1), that say this of their past.
+abbrev first : Past → List ℕ
+first p = frameOfMark (record { id = id 1 1; extent = box; stamp = []; past = p })
+
+abbrev second : Past → List ℕ
+second p = frameOfMark (record { id = id 1 2; extent = box; stamp = id 1 1 ∷ []; past = p })
+
+abbrev desk1 : State
+desk1 = marks (receives (marks (fresh 1)) (f21 ∷ f31 ∷ []))
+
+-- 1.2 of the document in edition 1, and one that starts later.
+abbrev whole : Past → List ℕ
+whole p = frameOfMark (record { id = id 1 2; extent = box; stamp = id 1 1 ∷ id 2 1 ∷ id 3 1 ∷ []; past = p })
+
+abbrev later : List ℕ
+later = frameOfMark (record { id = id 1 2; extent = record { start = 1_001; end = 1_500; low = 100; high = 400 }; stamp = id 1 1 ∷ id 2 1 ∷ id 3 1 ∷ []; past = Unsaid })
+
+abbrev foundCounted : List (List ℕ)
+foundCounted =
+    (said f32 ∷ said f12 ∷ said f22 ∷ said f41 ∷ [])
+    ∷ (sized (mark desks (fresh 1) box (replicate 24 0) .answer) ∷ sized (mark desks (fresh 1) box (replicate 25 0) .answer) ∷ [])
+    ∷ (answered (fresh 2) (first (Said 1)) ++ answered (fresh 2) (first (Said 0)) ++ answered (receives (fresh 2) (first (Said 0) ∷ [])) (first Unsaid) ++ answered (receives (fresh 2) (first (Said 0) ∷ [])) (first (Said 1)))
+    ∷ (answered (fresh 2) (second Unsaid) ++ answered (receives (fresh 2) (second Unsaid ∷ [])) (second (Said 7)) ++ answered (receives (fresh 2) (second Unsaid ∷ second (Said 7) ∷ [])) (first (Said 0))
+    ++ answered (receives (fresh 2) (second Unsaid ∷ second (Said 7) ∷ first (Said 0) ∷ [])) (second (Said 7)) ++ answered (receives (fresh 2) (second Unsaid ∷ second (Said 7) ∷ first (Said 0) ∷ [])) (second (Said 1)))
+    ∷ (answered (fresh 2) (second (Said 7)) ++ answered (receives (fresh 2) (second (Said 7) ∷ [])) (second (Said 1)) ++ answered (receives (fresh 2) (second (Said 7) ∷ [])) (second Unsaid)
+    ++ answered (receives (fresh 2) (second (Said 7) ∷ [])) (first (Said 0)))
+    ∷ (value (toSecondSize desks desk1 (whole Unsaid) 34) ∷ value (toSecondSize desks desk1 (whole Unsaid) 33) ∷ value (toSecondSize desks (fresh 4) (whole Unsaid) 0)
+    ∷ value (toSecondSize desks (receives (fresh 2) (second Unsaid ∷ [])) (second Unsaid) 0) ∷ value (toSecondSize desks desk1 later 0)
+    ∷ value (toSecondSize desks desk1 (whole (Said 3)) 0) ∷ value (toSecondSize desks (fresh 4) (whole (Said 3)) 0) ∷ value (toSecondSize desks desk1 (whole (Said 512)) 0) ∷ [])
+    ∷ (value (toFirstSize desks (whole (Said 3)) 32) ∷ value (toFirstSize desks (whole (Said 3)) 31) ∷ value (toFirstSize desks (whole Unsaid) 0) ∷ value (toFirstSize desks (whole (Said 7)) 40) ∷ [])
+    ∷ []
+
+-- What the conversions write: the one the other's frame; later bytes keep their values.
+abbrev foundConverted : List (List ℕ)
+foundConverted = toSecondBytes desks desk1 (whole Unsaid) (replicate 40 7) ∷ toFirstBytes desks (whole (Said 3)) (replicate 40 7) ∷ []
+
+abbrev converted : List (List ℕ)
+converted = (whole (Said 3) ++ replicate 6 7) ∷ (whole Unsaid ++ replicate 8 7) ∷ []
+
+abbrev sameNumbers : List ℕ → List ℕ → Bool
+sameNumbers [] [] = true
+sameNumbers [] (y ∷ ys) = false
+sameNumbers (x ∷ xs) [] = false
+sameNumbers (x ∷ xs) (y ∷ ys) = eqb x y && sameNumbers xs ys
 
 abbrev equal : List (List ℕ) → List (List ℕ) → Bool
 equal [] [] = true
 equal [] (y ∷ ys) = false
 equal (x ∷ xs) [] = false
-equal (x ∷ xs) (y ∷ ys) = sameBytes x y && equal xs ys
+equal (x ∷ xs) (y ∷ ys) = sameNumbers x y && equal xs ys
 
 pub examples : T (equal found starred) × T (equal foundPinned pinned) × T (equal foundShort short) × T (equal foundClicks clicks)
-unfolding isDesk isNumber boxRule at2 at4 bytes2 bytes4 fieldsOf headOf frameOf lengthBad versionBad countBad partBad fieldsBad entryBad entriesBad outputShort readFields readEntries writeSize same isHead heads previous ready missingEntries lacksPrevious missing falseStamp concurrent new fieldsOfMark frameOfMark sizeOfMark markIn full newMark markAnswer mark refuse executing arrive unmade receiveMark receive relate apartOf firstApart
-examples = (tt, tt, tt, tt)
+    × T (equal foundCounted counted) × T (equal foundConverted converted)
+unfolding isDesk isNumber boxRule at2 at4 bytes2 bytes4 pastIn fieldsOf headOf frameOf lengthBad versionBad countBad partBad fieldsBad entryBad entriesBad outputShort readFields readEntries writeSize same isHead heads previous ready missingEntries lacksPrevious missing reckoning falseEntries falseStamp concurrent new fieldsOfMark frameOfMark sizeOfMark markIn full newMark markAnswer mark refuse executing arrive unmade sameFields receiveMark receive relate apartOf firstApart frameAgainSize frameAgainBytes toSecondMark toSecondSize toSecondBytes toFirstMark toFirstSize toFirstBytes
+examples = (tt, tt, tt, tt, tt, tt)

@@ -10,18 +10,19 @@ use mathlib.Core.Logic.{inl, inr}
 use mathlib.Core.Path.{_∙_, _≡_, ap, refl, sym}
 use native.Mathlib.Omega.{arith}
 use Rattle.frame.specs.declared.Fields.{Fields}
+use Rattle.frame.specs.declared.MarkBox.{MarkBox}
 use Rattle.frame.specs.Answer.{gives, refuseIf}
-use Rattle.frame.specs.Frame.{edition, entriesBad, entriesOf, entryBad, entryBytes, fieldsBad, fieldsOf, outputShort, partBad, readEntries, readFields, writeSize}
+use Rattle.frame.specs.Frame.{editionOf, entriesBad, entriesOf, entryBad, entryBytes, fieldsBad, fieldsOf, outputShort, partBad, pastBad, pastIn, readEntries, readFields, writeSize}
 use Rattle.frame.specs.Mark.{MarkId, boxRule, isDesk, isNumber, numbers}
 use Rattle.frame.specs.RoundTrip.{AreBytes}
 use Rattle.frame.proofs.Entries.{entries-back, entry-bytes-back, entry-bytes-length}
 use Rattle.frame.proofs.RoundTrip.{PartsPass, Writable, accepted, frame-back, frame-length, frame-read}
 use Rattle.frame.proofs.Tests.{or-false, tests}
-use Rattle.causality.specs.Calls.{fieldsOfMark, frameOfMark, markIn, sameBytes, sizeOfMark}
+use Rattle.causality.specs.Calls.{fieldsOfMark, frameOfMark, markIn, sameBox, sameEntries, sameFields, sizeOfMark}
 use Rattle.causality.specs.Marks.{has, same}
-use Rattle.causality.specs.State.{Mark}
+use Rattle.causality.specs.State.{Mark, sameCount}
 use Rattle.causality.proofs.Lists.{has-self}
-use Rattle.causality.proofs.Logic.{and-fst, and-snd, and-true, or-cases, or-inr, same→eq}
+use Rattle.causality.proofs.Logic.{T→eq, and-fst, and-snd, and-true, or-cases, or-inr, same-refl, same→eq}
 use Rattle.causality.proofs.Numbers.{Strict}
 
 module _ (N : ℕ) where
@@ -38,6 +39,7 @@ module _ (N : ℕ) where
     pub entries : (e : MarkId) → T (has e (m .stamp)) → Range e
     pub earlier : (e : MarkId) → T (has e (m .stamp)) → e .desk ≡ m .id .desk → e .number < m .id .number
     pub count : length (m .stamp) ≤ N
+    pub past : pastBad (m .past) ≡ false
 
   -- Strictly rising desks from 1 to N are at most N.
   pub strict-count : (lo : ℕ) (xs : List MarkId) → lo ≤ N → Strict xs → ((e : MarkId) → T (has e xs) → lo < e .desk) → ((e : MarkId) → T (has e xs) → e .desk ≤ N) → length xs + lo ≤ N
@@ -134,37 +136,40 @@ module _ (N : ℕ) where
   -- FRAMES
 
   -- A frame that passes the reader carries such a mark.
-  pub frame-fit : (s : List ℕ) (f : Fields) → readFields (edition N) s ≡ gives f → Fit (markIn N s)
+  pub frame-fit : (s : List ℕ) (f : Fields) → readFields N s ≡ gives f → Fit (markIn N s)
   unfolding markIn readEntries fieldsBad
   frame-fit s f h =
-      let a = accepted (edition N) s f h .0 in
+      let a = accepted N s f h .0 in
       let g = fieldsOf s in
-      let p = or-false (not (isDesk N (g .desk))) (not (isNumber (g .number .0)) || not (boxRule (g .extent))) (a .parts .fields) in
-      let q = or-false (not (isNumber (g .number .0))) (not (boxRule (g .extent))) (p .1) in
-      let es = entries-facts (g .desk) (g .number .0) 0 (entriesOf (drop 23 s)) (a .parts .entries) in
-      let c = strict-count 0 (entriesOf (drop 23 s)) (omega arith) (es .strict) (λ e t. es .range e t .low) (λ e t. es .range e t .high) in
+      let p = or-false (not (isDesk N (g .desk))) (not (isNumber (g .number .0)) || (not (boxRule (g .extent)) || pastBad (g .past))) (a .parts .fields) in
+      let q = or-false (not (isNumber (g .number .0))) (not (boxRule (g .extent)) || pastBad (g .past)) (p .1) in
+      let r = or-false (not (boxRule (g .extent))) (pastBad (g .past)) (q .1) in
+      let es = entries-facts (g .desk) (g .number .0) 0 (entriesOf (drop (editionOf (pastIn s) .head) s)) (a .parts .entries) in
+      let c = strict-count 0 (entriesOf (drop (editionOf (pastIn s) .head) s)) (omega arith) (es .strict) (λ e t. es .range e t .low) (λ e t. es .range e t .high) in
       rw h (record {
         range = range-of _ (not-false _ (p .0)) (not-false _ (q .0));
-        rule = not-false _ (q .1);
+        rule = not-false _ (r .0);
         strict = es .strict;
         entries = es .range;
         earlier = es .earlier;
         count = omega arith;
+        past = r .1;
       })
 
-  fit-parts : (m : Mark) → Fit m → PartsPass (edition N) (fieldsOfMark m) (entryBytes (m .stamp))
+  fit-parts : (m : Mark) → Fit m → PartsPass N (fieldsOfMark m) (entryBytes (m .stamp))
   unfolding fieldsOfMark fieldsBad
   fit-parts m f = let r = f .range in record {
-    fields = rw (desk-test (m .id .desk) (r .low) (r .high), number-test (m .id .number) (r .first) (r .last), f .rule);
+    fields = rw (desk-test (m .id .desk) (r .low) (r .high), number-test (m .id .number) (r .first) (r .last), f .rule, f .past);
     entries = rw (entries-back (m .stamp)) (entries-test (m .id .desk) (m .id .number) 0 (m .stamp)
         (record { strict = f .strict; above = λ e t. f .entries e t .low; range = f .entries; earlier = f .earlier }));
   }
 
-  -- "23 + 3·c".
+  -- "23 + 3·c", "25 + 3·c".
   abbrev pub markSize : Mark → ℕ
-  markSize m = 23 + 3 * length (m .stamp)
+  markSize m = editionOf (m .past) .head + 3 * length (m .stamp)
 
-  fit-writable : (m : Mark) → Fit m → (lent : ℕ) → markSize m ≤ lent → Writable (edition N) (fieldsOfMark m) (entryBytes (m .stamp)) lent
+  fit-writable : (m : Mark) → Fit m → (lent : ℕ) → markSize m ≤ lent → Writable N (fieldsOfMark m) (entryBytes (m .stamp)) lent
+  unfolding fieldsOfMark
   fit-writable m f lent h = let n = entry-bytes-length (m .stamp) in let c = f .count in record {
     whole = omega arith;
     few = omega arith;
@@ -174,7 +179,7 @@ module _ (N : ℕ) where
 
   -- The writer refuses such a mark only for want of room.
   pub fit-size : (m : Mark) → Fit m → (lent : ℕ) → sizeOfMark N m lent ≡ refuseIf (ltb lent (markSize m)) 13 (gives (markSize m))
-  unfolding sizeOfMark writeSize partBad outputShort
+  unfolding sizeOfMark writeSize partBad outputShort fieldsOfMark
   fit-size m f lent =
       let p = fit-parts m f in
       let c = f .count in
@@ -182,43 +187,80 @@ module _ (N : ℕ) where
       let d : 3 * length (m .stamp) / 3 ≡ length (m .stamp) = omega arith in
       rw (p .fields, p .entries, entry-bytes-length (m .stamp), w, d, le-ltb N (length (m .stamp)) c)
 
-  pub fit-frame-length : (m : Mark) → length (frameOfMark N m) ≡ markSize m
-  unfolding frameOfMark
-  fit-frame-length m = frame-length (edition N) refl (fieldsOfMark m) (entryBytes (m .stamp)) ∙ ap (λ (n : ℕ). 23 + n) (entry-bytes-length (m .stamp))
+  pub fit-frame-length : (m : Mark) → length (frameOfMark m) ≡ markSize m
+  unfolding frameOfMark fieldsOfMark
+  fit-frame-length m = frame-length (fieldsOfMark m) (entryBytes (m .stamp)) ∙ ap (λ (n : ℕ). editionOf (m .past) .head + n) (entry-bytes-length (m .stamp))
 
-  pub fit-read : (m : Mark) → Fit m → readFields (edition N) (frameOfMark N m) ≡ gives (fieldsOfMark m)
+  pub fit-read : (m : Mark) → Fit m → readFields N (frameOfMark m) ≡ gives (fieldsOfMark m)
   unfolding frameOfMark
-  fit-read m f = frame-read (edition N) refl (fieldsOfMark m) (entryBytes (m .stamp)) (markSize m) (fit-writable m f (markSize m) (omega arith)) .0
+  fit-read m f = frame-read N (fieldsOfMark m) (entryBytes (m .stamp)) (markSize m) (fit-writable m f (markSize m) (omega arith)) .0
 
-  pub fit-entries : (m : Mark) → Fit m → entriesOf (readEntries (edition N) (frameOfMark N m)) ≡ m .stamp
+  pub fit-entries : (m : Mark) → Fit m → entriesOf (readEntries N (frameOfMark m)) ≡ m .stamp
   unfolding frameOfMark
-  fit-entries m f = ap entriesOf (frame-read (edition N) refl (fieldsOfMark m) (entryBytes (m .stamp)) (markSize m) (fit-writable m f (markSize m) (omega arith)) .1) ∙ entries-back (m .stamp)
+  fit-entries m f = ap entriesOf (frame-read N (fieldsOfMark m) (entryBytes (m .stamp)) (markSize m) (fit-writable m f (markSize m) (omega arith)) .1) ∙ entries-back (m .stamp)
 
   -- Its frame spells it.
-  pub fit-back : (m : Mark) → Fit m → markIn N (frameOfMark N m) ≡ m
+  pub fit-back : (m : Mark) → Fit m → markIn N (frameOfMark m) ≡ m
   unfolding markIn fieldsOfMark
   fit-back m f =
-      let g : fieldsOf (frameOfMark N m) ≡ fieldsOfMark m = accepted (edition N) (frameOfMark N m) (fieldsOfMark m) (fit-read m f) .1 in
+      let g : fieldsOf (frameOfMark m) ≡ fieldsOfMark m = accepted N (frameOfMark m) (fieldsOfMark m) (fit-read m f) .1 in
       let e = fit-entries m f in
-      λ i. record { id = record { desk = g i .desk; number = g i .number .0 }; extent = g i .extent; stamp = e i }
+      λ i. record { id = record { desk = g i .desk; number = g i .number .0 }; extent = g i .extent; stamp = e i; past = g i .past }
 
-  -- "the same bytes": equal bytes are equal marks, and the mark that accepted bytes spell has these bytes.
-  pub equal-bytes : (h : Mark) (s : List ℕ) → Fit h → frameOfMark N h ≡ s → h ≡ markIn N s
+  -- Equal bytes are equal marks, and the mark that accepted bytes spell has these bytes.
+  pub equal-bytes : (h : Mark) (s : List ℕ) → Fit h → frameOfMark h ≡ s → h ≡ markIn N s
   equal-bytes h s f e = sym (fit-back h f) ∙ ap (markIn N) e
 
-  pub accepted-bytes : (s : List ℕ) (f : Fields) → AreBytes s → readFields (edition N) s ≡ gives f → frameOfMark N (markIn N s) ≡ s
+  pub accepted-bytes : (s : List ℕ) (f : Fields) → AreBytes s → readFields N s ≡ gives f → frameOfMark (markIn N s) ≡ s
   unfolding frameOfMark markIn fieldsOfMark readEntries
   accepted-bytes s f b h =
-      let a = accepted (edition N) s f h .0 in
-      let w : length (drop 23 s) % 3 ≡ 0 = rw length-drop (omega arith) in
-      rw (h, entry-bytes-back (drop 23 s) (λ i. rw (getD-drop) (b (23 + i))) w) (frame-back s b (edition N) refl a)
+      let a = accepted N s f h .0 in
+      let n = editionOf (pastIn s) .head in
+      let w : length (drop n s) % 3 ≡ 0 = rw length-drop (omega arith) in
+      rw (h, entry-bytes-back (drop n s) (λ i. rw (getD-drop) (b (n + i))) w) (frame-back s b N a)
 
-  -- "the same bytes" is equality.
-  pub same-bytes : (a b : List ℕ) → T (sameBytes a b) → a ≡ b
-  same-bytes [] [] t = refl
-  same-bytes [] (y ∷ ys) t = absurd t
-  same-bytes (x ∷ xs) [] t = absurd t
-  same-bytes (x ∷ xs) (y ∷ ys) t =
-      let p : x ≡ y = eqb→eq x y (and-fst (eqb x y) (sameBytes xs ys) t) in
-      let q : xs ≡ ys = same-bytes xs ys (and-snd (eqb x y) (sameBytes xs ys) t) in
-      λ i. p i ∷ q i
+-- FIELDS THAT AGREE
+
+same-box : (a b : MarkBox) → T (sameBox a b) → a ≡ b
+same-box a b t =
+    let s : Bool = eqb (a .start) (b .start) in
+    let e : Bool = eqb (a .end) (b .end) in
+    let l : Bool = eqb (a .low) (b .low) in
+    let h : Bool = eqb (a .high) (b .high) in
+    let p : a .start ≡ b .start = eqb→eq (a .start) (b .start) (and-fst s (e && (l && h)) t) in
+    let q : a .end ≡ b .end = eqb→eq (a .end) (b .end) (and-fst e (l && h) (and-snd s (e && (l && h)) t)) in
+    let u : a .low ≡ b .low = eqb→eq (a .low) (b .low) (and-fst l h (and-snd e (l && h) (and-snd s (e && (l && h)) t))) in
+    let v : a .high ≡ b .high = eqb→eq (a .high) (b .high) (and-snd l h (and-snd e (l && h) (and-snd s (e && (l && h)) t))) in
+    λ i. record { start = p i; end = q i; low = u i; high = v i }
+
+box-same : (a : MarkBox) → sameBox a a ≡ true
+box-same a = rw (eq-eqb (a .start) (a .start) refl, eq-eqb (a .end) (a .end) refl, eq-eqb (a .low) (a .low) refl, eq-eqb (a .high) (a .high) refl)
+
+pub same-entries : (es fs : List MarkId) → T (sameEntries es fs) → es ≡ fs
+same-entries [] [] t = refl
+same-entries [] (f ∷ fs) t = absurd t
+same-entries (e ∷ es) [] t = absurd t
+same-entries (e ∷ es) (f ∷ fs) t =
+    let p : e ≡ f = same→eq e f (and-fst (same e f) (sameEntries es fs) t) in
+    let q : es ≡ fs = same-entries es fs (and-snd (same e f) (sameEntries es fs) t) in
+    λ i. p i ∷ q i
+
+pub entries-same : (es : List MarkId) → sameEntries es es ≡ true
+entries-same [] = refl
+entries-same (e ∷ es) = rw (T→eq (same e e) (same-refl e)) (entries-same es)
+
+-- "their fields agree, past count included where both have it".
+pub same-fields : (h m : Mark) → T (sameFields h m) → (h .extent ≡ m .extent) × (h .stamp ≡ m .stamp) × T (sameCount (h .past) (m .past))
+unfolding sameFields
+same-fields h m t =
+    let a : Bool = sameBox (h .extent) (m .extent) in
+    let b : Bool = sameEntries (h .stamp) (m .stamp) in
+    let c : Bool = sameCount (h .past) (m .past) in (
+      same-box (h .extent) (m .extent) (and-fst a (b && c) t),
+      same-entries (h .stamp) (m .stamp) (and-fst b c (and-snd a (b && c) t)),
+      and-snd b c (and-snd a (b && c) t),
+    )
+
+pub fields-same : (h m : Mark) → h .extent ≡ m .extent → h .stamp ≡ m .stamp → T (sameCount (h .past) (m .past)) → sameFields h m ≡ true
+unfolding sameFields
+fields-same h m e s c = rw (e, s, box-same (m .extent), entries-same (m .stamp)) (T→eq (sameCount (h .past) (m .past)) c)

@@ -10,7 +10,7 @@ use Rattle.frame.specs.Answer.{gives}
 use Rattle.causality.specs.Answers.{Waiting}
 use Rattle.causality.specs.Calls.{Received, executing, markIn, receive, release}
 use Rattle.causality.specs.Marks.{lowest, without}
-use Rattle.causality.specs.State.{Mark, State, falseStamp, markId, ready}
+use Rattle.causality.specs.State.{Mark, State, falseStamp, markId, ready, reckoned}
 use Rattle.causality.proofs.Cases.{ReceiveCase, executedBy, executes, known, received-case, refusal, stays, waits}
 
 release-growth : (turns : ℕ) (l ws : List Mark) (k f : ℕ) → (release turns l ws k f) .k + length l ≡ k + length ((release turns l ws k f) .executed)
@@ -25,14 +25,14 @@ release-growth (suc turns) l ws k f = go (lowest markId (ready l) ws) refl (rele
       where
         by : (b : Bool) → falseStamp l w ≡ b → (release (suc turns) l ws k f) .k + length l ≡ k + length ((release (suc turns) l ws k f) .executed)
         by true x = rw (e, release) (rw x (ih l (without markId (w .id) ws) k (suc f)))
-        by false x = rw (e, release) (rw x (let g = ih (w ∷ l) (without markId (w .id) ws) (suc k) f in omega arith))
+        by false x = rw (e, release) (rw x (let g = ih (reckoned l w ∷ l) (without markId (w .id) ws) (suc k) f in omega arith))
 
 case-growth : (st : State) (m : Mark) (r : Received) → ReceiveCase st m r → length (r .state .executed) ≡ executedBy (r .answer) + length (st .executed)
 unfolding executing
 case-growth st m r (stays a known) = omega arith
 case-growth st m r (stays a (refusal c)) = omega arith
 case-growth st m r (waits a b c n p) = omega arith
-case-growth st m r (executes a b c) = let g = release-growth (length (st .waiting)) (m ∷ st .executed) (st .waiting) 1 0 in omega arith
+case-growth st m r (executes a b c) = let g = release-growth (length (st .waiting)) (reckoned (st .executed) m ∷ st .executed) (st .waiting) 1 0 in omega arith
 
 pub receive-growth : (N : ℕ) (st : State) (s : List ℕ)
     → length ((receive N st s) .state .executed) ≡ executedBy ((receive N st s) .answer) + length (st .executed)

@@ -1,51 +1,53 @@
 -- Every state that came from New and the calls, whatever bytes it was lent: what holds of it. Assumes nothing.
-use Prim.Native.Nat.{_+_, _≤_, suc, zero, ℕ}
-use borrow.Author.Tests.{eqb-false}
+use Prim.Native.Nat.{_<_, _+_, _≤_, suc, zero, ℕ}
+use borrow.Author.Tests.{eqb-false, le-ltb}
 use lib.Dec.{T}
 use lib.ListN.{length}
 use mathlib.Core.Bool.{Bool, false, true}
-use mathlib.Core.List.{List, _∷_}
+use mathlib.Core.List.{List, [], _∷_}
 use mathlib.Core.Option.{Option, none, some}
 use mathlib.Core.Path.{_≡_, refl, subst}
 use native.Mathlib.Omega.{arith}
 use Rattle.frame.specs.declared.Fields.{Fields}
 use Rattle.frame.specs.declared.MarkBox.{MarkBox}
+use Rattle.frame.specs.declared.Past.{Past}
+use Rattle.frame.specs.declared.Past.the-variants.{Said, Unsaid}
 use Rattle.frame.specs.Answer.{Answer, gives, refused}
-use Rattle.frame.specs.Frame.{edition, readFields}
-use Rattle.frame.specs.Mark.{MarkId, boxRule, isDesk, numbers}
+use Rattle.frame.specs.Frame.{pastBad, readFields}
+use Rattle.frame.specs.Mark.{MarkId, boxRule, isDesk, numbers, pasts}
 use Rattle.causality.specs.Answers.{Numbered}
 use Rattle.causality.specs.Calls.{Created, FromCalls, Received, created, earlier, empty, execute, executing, full, ifRead, mark, markAnswer, markIn, marked, new, newMark, receive, receiveMark, received, refuse, release, stateIf}
 use Rattle.causality.specs.Marks.{All, has, lowest, places, tally, without}
-use Rattle.causality.specs.State.{Mark, State, falseStamp, heads, ids, markId, ready}
+use Rattle.causality.specs.State.{Mark, State, falseStamp, heads, ids, markId, ready, reckoned, reckoning, withPast}
 use Rattle.causality.proofs.Cases.{ReceiveCase, executes, mark-gives, receive-case, stays, waits}
 use Rattle.causality.proofs.Fit.{Fit, Range, desk-facts, frame-fit, strict-count}
 use Rattle.causality.proofs.Lists.{Picked, all-ids, all-map, lowest-picked, tally-length, without-all}
 use Rattle.causality.proofs.Numbers.{Strict, heads-strict}
 use Rattle.causality.proofs.Past.{Standing, counted, heads-has, prefix-le}
-use Rattle.causality.proofs.Reach.{ReachState, local, local-hist, mark-reach, receive-reach}
+use Rattle.causality.proofs.Reach.{ReachState, Sound, local, local-hist, mark-reach, receive-reach, reckoning-le}
 use Rattle.causality.proofs.Room.{StillState, mark-still, receive-still}
 
--- What holds of every mark holds of every mark after the release.
-pub release-all : (P : Mark → Type 0) (turns : ℕ) (l ws : List Mark) (k f : ℕ) → All P l → All P ws
-    → All P ((release turns l ws k f) .executed) × All P ((release turns l ws k f) .waiting)
-release-all P zero l ws k f a b = (a, b)
-release-all P (suc turns) l ws k f a b = go (lowest markId (ready l) ws) refl (release-all P turns)
+-- What holds of every waiting mark, and of every executed one as it is executed, holds after the release.
+pub release-all : (P Q : Mark → Type 0) → ((l : List Mark) (w : Mark) → Q w → P (reckoned l w)) → (turns : ℕ) (l ws : List Mark) (k f : ℕ) → All P l → All Q ws
+    → All P ((release turns l ws k f) .executed) × All Q ((release turns l ws k f) .waiting)
+release-all P Q r zero l ws k f a b = (a, b)
+release-all P Q r (suc turns) l ws k f a b = go (lowest markId (ready l) ws) refl (release-all P Q r turns)
   where
     go : (o : Option Mark) → lowest markId (ready l) ws ≡ o
-        → ((l ws : List Mark) (k f : ℕ) → All P l → All P ws → All P ((release turns l ws k f) .executed) × All P ((release turns l ws k f) .waiting))
-        → All P ((release (suc turns) l ws k f) .executed) × All P ((release (suc turns) l ws k f) .waiting)
+        → ((l ws : List Mark) (k f : ℕ) → All P l → All Q ws → All P ((release turns l ws k f) .executed) × All Q ((release turns l ws k f) .waiting))
+        → All P ((release (suc turns) l ws k f) .executed) × All Q ((release (suc turns) l ws k f) .waiting)
     go none e ih = rw (e, release) (a, b)
     go (some w) e ih = by (falseStamp l w) refl
       where
-        rest : All P (without markId (w .id) ws)
-        rest = all-map (λ v x. x .0) (without markId (w .id) ws) (without-all P (w .id) ws b)
+        rest : All Q (without markId (w .id) ws)
+        rest = all-map (λ v x. x .0) (without markId (w .id) ws) (without-all Q (w .id) ws b)
 
-        pw : P w
-        pw = (subst (Picked P (ready l)) e (lowest-picked P (ready l) ws b)) .0
+        qw : Q w
+        qw = (subst (Picked Q (ready l)) e (lowest-picked Q (ready l) ws b)) .0
 
-        by : (c : Bool) → falseStamp l w ≡ c → All P ((release (suc turns) l ws k f) .executed) × All P ((release (suc turns) l ws k f) .waiting)
+        by : (c : Bool) → falseStamp l w ≡ c → All P ((release (suc turns) l ws k f) .executed) × All Q ((release (suc turns) l ws k f) .waiting)
         by true q = rw (e, release) (rw q (ih l (without markId (w .id) ws) k (suc f) a rest))
-        by false q = rw (e, release) (rw q (ih (w ∷ l) (without markId (w .id) ws) (suc k) f (pw, a) rest))
+        by false q = rw (e, release) (rw q (ih (reckoned l w ∷ l) (without markId (w .id) ws) (suc k) f (r l w qw, a) rest))
 
 module _ (N : ℕ) (some-desk : 1 ≤ N) where
   pub record Kept (st : State) : Type 0 where
@@ -70,6 +72,7 @@ module _ (N : ℕ) (some-desk : 1 ≤ N) where
     earlier = λ e t z. let a = (prefix-le (ids l) (counted past l h) e ((heads-has past l e t) .0)) .1 in
         let c : e .number ≤ tally (st .own) (ids l) = subst (λ (n : ℕ). e .number ≤ tally n (ids l)) z a in omega arith;
     count = let c = strict-count N 0 (heads l) (omega arith) strict (λ e t. range e t .low) (λ e t. range e t .high) in omega arith;
+    past = le-ltb pasts (length l) few;
   }
     where
       l : List Mark
@@ -87,12 +90,35 @@ module _ (N : ℕ) (some-desk : 1 ≤ N) where
       range : (e : MarkId) → T (has e (heads l)) → Range N e
       range e t = listed-range st k e ((heads-has past l e t) .0)
 
+      few : length l ≤ pasts
+      few =
+          let c = k .still .room .total in
+          let n : ¬ (length l + length (st .waiting) ≡ places) = eqb-false _ _ room in
+          omega arith
+
       last : suc (tally (st .own) (ids l)) ≤ numbers
       last =
           let a = tally-length (st .own) l in
           let c = k .still .room .total in
           let n : ¬ (length l + length (st .waiting) ≡ places) = eqb-false _ _ room in
           omega arith
+
+  -- Passing but for the past, which of an executed mark is within bounds: fewer than 512 marks precede one.
+  abbrev Bare : Mark → Type 0
+  Bare m = Fit N (withPast m Unsaid)
+
+  pub fit-with : (m : Mark) (p : Past) → Fit N m → pastBad p ≡ false → Fit N (withPast m p)
+  fit-with m p f b = record { range = f .range; rule = f .rule; strict = f .strict; entries = f .entries; earlier = f .earlier; count = f .count; past = b }
+
+  -- Fewer marks than places precede it, so its count is in range.
+  pub count-fit : (m : Mark) (older : List Mark) → Sound (m ∷ older) → length older < places → Bare m → Fit N m
+  count-fit m older s q f =
+      let r = reckoning-le m older s in
+      fit-with (withPast m Unsaid) (m .past) f (rw (s .0 .count) (le-ltb pasts (reckoning (m ∷ older) (m .id)) (omega arith)))
+
+  reckoned-fit : (l : List Mark) → Sound l → length l ≤ places → All Bare l → All (Fit N) l
+  reckoned-fit [] s q a = tt
+  reckoned-fit (m ∷ older) s q a = (count-fit m older s (omega arith) (a .0), reckoned-fit older (s .1) (omega arith) (a .1))
 
   pub mark-kept : (st : State) (b : MarkBox) (out : List ℕ) → Kept st → Kept ((mark N st b out) .state)
   unfolding mark
@@ -105,24 +131,27 @@ module _ (N : ℕ) (some-desk : 1 ≤ N) where
           record { low = k .low; high = k .high; reach = r; still = s; executed = (new-fit st b k (g .rule) (g .room), k .executed); waiting = k .waiting }
       go (refused c) e r s = k
 
-  pub receive-mark-kept : (st : State) (m : Mark) (s : List ℕ) → Fit N m → Kept st → Kept ((receiveMark N st m s) .state)
+  pub receive-mark-kept : (st : State) (m : Mark) → Fit N m → Kept st → Kept ((receiveMark st m) .state)
   unfolding executing
-  receive-mark-kept st m s f k = go (receive-case N st m s)
-      (receive-reach N st m s (f .range .first) (λ e t. f .entries e t .first) (k .reach)) (receive-still N st m s (k .still))
+  receive-mark-kept st m f k = go (receive-case st m)
+      (receive-reach st m (f .range .first) (λ e t. f .entries e t .first) (k .reach)) (receive-still st m (k .still))
     where
       go : {x : Received} → ReceiveCase st m x → ReachState (x .state) → StillState (x .state) → Kept (x .state)
       go (stays a z) r q = k
       go (waits a b c n p) r q = record { low = k .low; high = k .high; reach = r; still = q; executed = k .executed; waiting = (f, k .waiting) }
       go (executes a b c) r q =
-          let x = release-all (Fit N) (length (st .waiting)) (m ∷ st .executed) (st .waiting) 1 0 (f, k .executed) (k .waiting) in
-          record { low = k .low; high = k .high; reach = r; still = q; executed = x .0; waiting = x .1 }
+          let x = release-all Bare (Fit N) (λ l w g. fit-with w Unsaid g refl) (length (st .waiting)) (reckoned (st .executed) m ∷ st .executed) (st .waiting) 1 0
+          (fit-with m Unsaid f refl, all-map (λ v g. fit-with v Unsaid g refl) (st .executed) (k .executed)) (k .waiting) in
+          let l = release (length (st .waiting)) (reckoned (st .executed) m ∷ st .executed) (st .waiting) 1 0 .executed in
+          let t = q .room .total in
+          record { low = k .low; high = k .high; reach = r; still = q; executed = reckoned-fit l (r .sound) (omega arith) (x .0); waiting = x .1 }
 
   pub receive-kept : (st : State) (s : List ℕ) → Kept st → Kept ((receive N st s) .state)
   unfolding receive refuse
-  receive-kept st s k = go (readFields (edition N) s) refl
+  receive-kept st s k = go (readFields N s) refl
     where
-      go : (a : Answer Fields) → readFields (edition N) s ≡ a → Kept ((ifRead a st (receiveMark N st (markIn N s) s)) .state)
-      go (gives f) e = receive-mark-kept st (markIn N s) s (frame-fit N s f e) k
+      go : (a : Answer Fields) → readFields N s ≡ a → Kept ((ifRead a st (receiveMark st (markIn N s))) .state)
+      go (gives f) e = receive-mark-kept st (markIn N s) (frame-fit N s f e) k
       go (refused c) e = k
 
   empty-kept : (d : ℕ) → 1 ≤ d → d ≤ N → Kept (empty d)

@@ -6,6 +6,7 @@ pub mod Shared
 pub mod Past
 pub mod Numbers
 pub mod Missing
+pub mod Reckoning
 pub mod Cases
 pub mod Refusals
 pub mod Growth
@@ -15,6 +16,8 @@ pub mod Rows
 pub mod Heads
 pub mod Fit
 pub mod Kept
+pub mod Conversions
 pub mod RowLaws
 pub mod Apart
+pub mod RowCounts
 pub mod Laws

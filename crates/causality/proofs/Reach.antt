@@ -4,28 +4,32 @@ use lib.Dec.{T, T-not, eqb, eqb-refl, leb, ltb, lt→ltb, nltb→le, not-T}
 use lib.ListN.{length}
 use mathlib.Core.Bool.{Bool, _&&_, _||_, false, not, true}
 use mathlib.Core.List.{List, [], _++_, _∷_}
-use mathlib.Core.Logic.{_⊎_, inl, inr}
+use mathlib.Core.Logic.{_↔_, _⊎_, inl, inr}
 use mathlib.Core.Option.{Option, none, some}
 use mathlib.Core.Path.{_∙_, _≡_, ap, refl, subst, sym}
 use native.Mathlib.Omega.{arith}
 use Rattle.frame.specs.declared.MarkBox.{MarkBox}
+use Rattle.frame.specs.declared.Past.the-variants.{Said}
 use Rattle.frame.specs.Answer.{Answer, gives, refused}
 use Rattle.frame.specs.Mark.{MarkId}
+use Rattle.frame.proofs.Tests.{or-false}
 use Rattle.causality.specs.Answers.{Numbered}
 use Rattle.causality.specs.Calls.{Received, execute, executing, mark, markAnswer, newMark, receiveMark, release, stateIf, unmade}
 use Rattle.causality.specs.Marks.{All, all, any, has, keep, lowest, same, tally, without}
-use Rattle.causality.specs.State.{Mark, State, falseStamp, heads, ids, markId, precedes, previous, ready}
+use Rattle.causality.specs.State.{Mark, State, falseEntries, falseStamp, heads, ids, markId, precedes, previous, ready, reckoned, reckoning, sameCount}
 use Rattle.causality.proofs.Cases.{Arrives, ReceiveCase, executes, receive-case, stays, waits}
-use Rattle.causality.proofs.Lists.{Picked, absent-all, all-at, all-map, any-cong, any-find, any-of, find-has, has-append, has-keep, has-self, ids-append, keep-has, lowest-picked, nor-fst, nor-snd, without-all}
+use Rattle.causality.proofs.Lists.{Picked, absent-all, all-at, all-map, any-cong, any-find, any-of, find-has, has-append, has-keep, has-self, ids-append, ids-length, keep-has, lowest-picked, nor-fst, nor-snd, without-all}
 use Rattle.causality.proofs.Logic.{T→eq, and-fst, and-intro, bool-ext, nT→eq, or-cases, or-inl, or-inr, same-refl, same→eq, split}
 use Rattle.causality.proofs.Numbers.{ready-next}
-use Rattle.causality.proofs.Past.{Counted, Good, Standing, fresh-of, has-heads, head-in, head-out, heads-has, prefix-has, top-exists}
+use Rattle.causality.proofs.Past.{Counted, Good, Standing, fresh-of, has-heads, head-in, head-out, heads-has, prefix-has, prefix-le, top-exists}
+use Rattle.causality.proofs.Reckoning.{among-le, counted-once, keep-once, reckoning-of, reckoning-past}
 
 pub record Follows (m : Mark) (older : List Mark) : Type 0 where
   pub next : m .id .number ≡ suc (tally (m .id .desk) (ids older))
   pub listed : (e : MarkId) → T (has e (m .stamp)) → T (has e (ids older))
   pub clear : (e f : MarkId) → T (has e (m .stamp)) → T (has f (m .stamp)) → T (precedes older e f) → ⊥
   pub prev : 1 < m .id .number → T (any (λ e. same (previous (m .id)) e || precedes older (previous (m .id)) e) (m .stamp))
+  pub count : m .past ≡ Said (reckoning (m ∷ older) (m .id))
 
 abbrev pub Sound : List Mark → Type 0
 Sound [] = Unit {0}
@@ -139,6 +143,78 @@ local-precedes l s a b = bool-ext (has a (local l b)) (precedes l a b) (λ t. (k
 pub local-hist : (l : List Mark) → Sound l → Standing (local l) l
 local-hist l s = sound-hist (local l) l s (λ a b t. local-precedes l s a b)
 
+-- Fewer marks than are behind it precede a mark, or as many; and it is not reckoned anew as the list grows.
+pub reckoning-le : (m : Mark) (older : List Mark) → Sound (m ∷ older) → reckoning (m ∷ older) (m .id) ≤ length older
+unfolding reckoning
+reckoning-le m older s =
+    let c = sound-counted (m ∷ older) s in
+    let h = local-hist (m ∷ older) s in
+    let q = among-le (local (m ∷ older) (m .id)) (ids older) (keep-once (λ a. precedes (m ∷ older) a (m .id)) (ids (m ∷ older)) (counted-once (ids (m ∷ older)) c)) (h .0 .behind) in
+    let n = ids-length older in
+    omega arith
+
+reckoning-old : (m : Mark) (older : List Mark) → Sound (m ∷ older) → (i : MarkId) → T (has i (ids older)) → reckoning (m ∷ older) i ≡ reckoning older i
+unfolding reckoning
+reckoning-old m older s i t = reckoning-of (m ∷ older) i (local older i) (counted-once (ids (m ∷ older)) c) (keep-once (λ a. precedes older a i) (ids older) (counted-once (ids older) (c .1)))
+    (λ a u. rw (local-precedes older (s .1) a i, ← precedes-old m older a i n) u)
+    (λ a u. let v = keep-has (λ a. precedes older a i) (ids older) a u in (or-inr (same a (m .id)) (has a (ids older)) (v .0), rw (precedes-old m older a i n) (v .1)))
+  where
+    c : Counted (ids (m ∷ older))
+    c = sound-counted (m ∷ older) s
+
+    n : T (not (same i (m .id)))
+    n = not-new m older s i t
+
+-- what is said of the past of each executed mark is the reckoning
+pub sound-reckoned : (l : List Mark) → Sound l → All (λ m. m .past ≡ Said (reckoning l (m .id))) l
+sound-reckoned l s = down l s (λ i t. refl)
+  where
+    down : (k : List Mark) → Sound k → ((i : MarkId) → T (has i (ids k)) → reckoning l i ≡ reckoning k i) → All (λ m. m .past ≡ Said (reckoning l (m .id))) k
+    down [] s f = tt
+    down (m ∷ older) s f = (
+      s .0 .count ∙ ap Said (sym (f (m .id) (has-self (m .id) (ids older)))),
+      down older (s .1) (λ i t. f i (or-inr (same i (m .id)) (has i (ids older)) t) ∙ reckoning-old m older s i t),
+    )
+
+-- a new mark follows just what its desk had executed
+pub new-after : (d : State) (box : MarkBox) → Sound (d .executed) → (a : MarkId) → T (precedes (newMark d box ∷ d .executed) a (newMark d box .id)) ↔ T (has a (ids (d .executed)))
+unfolding newMark
+new-after d box s a = rw (T→eq (same i i) (same-refl i), precedes) (there, back)
+  where
+    l : List Mark
+    l = d .executed
+
+    i : MarkId
+    i = newMark d box .id
+
+    h : Standing (local l) l
+    h = local-hist l s
+
+    there : T (any (λ e. same a e || precedes l a e) (heads l)) → T (has a (ids l))
+    there t =
+        let r = any-find (λ e. same a e || precedes l a e) (heads l) t in
+        elim (or-cases (same a (r .0)) (precedes l a (r .0)) (r .2)) [
+          | inl e ↦ rw (same→eq a (r .0) e) ((heads-has (local l) l (r .0) (r .1)) .0)
+          | inr n ↦ (precedes-listed l s a (r .0) n) .0
+        ]
+
+    back : T (has a (ids l)) → T (any (λ e. same a e || precedes l a e) (heads l))
+    back t =
+        let r = top-exists (local l) l h a t in
+        any-of (λ e. same a e || precedes l a e) (heads l) (r .top) (has-heads (local l) l (r .top) (r .listed) (head-in (local l) l h (r .top) (r .last)))
+        (rw (← local-precedes l s a (r .top)) (r .below))
+
+pub new-reckoning : (d : State) (box : MarkBox) → Sound (d .executed) → reckoning (newMark d box ∷ d .executed) (newMark d box .id) ≡ length (d .executed)
+unfolding newMark
+new-reckoning d box s =
+    reckoning-of (newMark d box ∷ d .executed) (newMark d box .id) (ids (d .executed)) (counted-once (ids (newMark d box ∷ d .executed)) (refl, c)) (counted-once (ids (d .executed)) c)
+    (λ a t. new-after d box s a .0 t)
+    (λ a t. (or-inr (same a (newMark d box .id)) (has a (ids (d .executed))) t, new-after d box s a .1 t))
+    ∙ ids-length (d .executed)
+  where
+    c : Counted (ids (d .executed))
+    c = sound-counted (d .executed) s
+
 pub mark-sound : (d : State) (box : MarkBox) → Sound (d .executed) → Follows (newMark d box) (d .executed)
 unfolding newMark previous
 mark-sound d box s = record {
@@ -150,6 +226,7 @@ mark-sound d box s = record {
       let r = top-exists past l h p (prefix-has (ids l) (sound-counted l s) p (omega arith) (omega arith)) in
       any-of (λ e. same p e || precedes l p e) (heads l) (r .top) (has-heads past l (r .top) (r .listed) (head-in past l h (r .top) (r .last)))
       (rw (← local-precedes l s p (r .top)) (r .below));
+  count = ap Said (sym (new-reckoning d box s));
 }
   where
     l : List Mark
@@ -161,13 +238,14 @@ mark-sound d box s = record {
     h : Standing past l
     h = local-hist l s
 
-pub follows-of : (l : List Mark) (m : Mark) → Sound l → 1 ≤ m .id .number → T (not (has (m .id) (ids l))) → T (ready l m) → falseStamp l m ≡ false → Follows m l
-unfolding ready falseStamp
+pub follows-of : (l : List Mark) (m : Mark) → Sound l → 1 ≤ m .id .number → T (not (has (m .id) (ids l))) → T (ready l m) → falseStamp l m ≡ false → Follows (reckoned l m) l
+unfolding ready falseStamp falseEntries reckoning
 follows-of l m s p n t e = record {
   next = ready-next l m (sound-counted l s) p n t;
   listed = all-at (λ e. has e (ids l)) (m .stamp) (and-fst (all (λ e. has e (ids l)) (m .stamp)) (leb (m .id .number) 1 || has (previous (m .id)) (ids l)) t);
   clear = λ a b ta tb u. T-not one (nor-fst one two no-false) (any-of (λ e. any (λ f. precedes l e f) (m .stamp)) (m .stamp) a ta (any-of (λ f. precedes l a f) (m .stamp) b tb u));
   prev = λ q. elim (split pr) [ inl x ↦ x | inr x ↦ absurd (T-not two (nor-snd one two no-false) (and-intro (ltb 1 (m .id .number)) (not pr) (lt→ltb 1 (m .id .number) q) x)) ];
+  count = refl;
 }
   where
     pr : Bool
@@ -180,7 +258,7 @@ follows-of l m s p n t e = record {
     two = ltb 1 (m .id .number) && not pr
 
     no-false : T (not (one || two))
-    no-false = rw e tt
+    no-false = rw (or-false (one || two) (not (sameCount (m .past) (Said (reckoning (m ∷ l) (m .id))))) e .0) tt
 
 -- own: the desk's number. A mark of this desk never waits
 module _ (own : ℕ) where
@@ -222,7 +300,7 @@ module _ (own : ℕ) where
 
           by : (b : Bool) → falseStamp l w ≡ b → Reach ((release (suc turns) l ws k f) .executed) ((release (suc turns) l ws k f) .waiting)
           by true q = rw (e, release) (rw q (ih l (without markId (w .id) ws) k (suc f) (record { sound = r .sound; wait = all-map (λ v x. x .0) (without markId (w .id) ws) a })))
-          by false q = rw (e, release) (rw q (ih (w ∷ l) (without markId (w .id) ws) (suc k) f (grown l (without markId (w .id) ws) w (follows-of l w (r .sound) (pk .0 .pos) (pk .0 .fresh) (pk .1) q) (r .sound) a)))
+          by false q = rw (e, release) (rw q (ih (reckoned l w ∷ l) (without markId (w .id) ws) (suc k) f (grown l (without markId (w .id) ws) (reckoned l w) (follows-of l w (r .sound) (pk .0 .pos) (pk .0 .fresh) (pk .1) q) (r .sound) a)))
 
 abbrev pub ReachState : State → Type 0
 ReachState d = Reach (d .own) (d .executed) (d .waiting)
@@ -243,17 +321,17 @@ mark-reach N d b out r = go (markAnswer N d b (length out))
 absent-both : (d : State) (m : Mark) → Arrives d m → T (not (has (m .id) (ids (d .executed)) || has (m .id) (ids (d .waiting))))
 absent-both d m a = rw (← has-append (m .id) (ids (d .executed)) (ids (d .waiting)), ← ids-append (d .executed) (d .waiting), find-has (m .id) (d .executed ++ d .waiting), a .absent) tt
 
-pub execute-reach : (d : State) (m : Mark) → 1 ≤ m .id .number → ReachState d → Arrives d m → ready (d .executed) m ≡ true → falseStamp (d .executed) m ≡ false → ReachState (execute m d)
+pub execute-reach : (d : State) (m : Mark) → 1 ≤ m .id .number → ReachState d → Arrives d m → ready (d .executed) m ≡ true → falseStamp (d .executed) m ≡ false → ReachState (execute (reckoned (d .executed) m) d)
 execute-reach d m p r a b c =
     let n = absent-both d m a in
     let here = nor-fst (has (m .id) (ids (d .executed))) (has (m .id) (ids (d .waiting))) n in
-    grown (d .own) (d .executed) (d .waiting) m (follows-of (d .executed) m (r .sound) p here (rw b tt) c) (r .sound)
+    grown (d .own) (d .executed) (d .waiting) (reckoned (d .executed) m) (follows-of (d .executed) m (r .sound) p here (rw b tt) c) (r .sound)
     (absent-all (Wait (d .own) (d .executed)) (m .id) (d .waiting) (nor-snd (has (m .id) (ids (d .executed))) (has (m .id) (ids (d .waiting))) n) (r .wait))
 
-pub receive-reach : (N : ℕ) (d : State) (m : Mark) (s : List ℕ) → 1 ≤ m .id .number → ((e : MarkId) → T (has e (m .stamp)) → 1 ≤ e .number) → ReachState d
-    → ReachState ((receiveMark N d m s) .state)
+pub receive-reach : (d : State) (m : Mark) → 1 ≤ m .id .number → ((e : MarkId) → T (has e (m .stamp)) → 1 ≤ e .number) → ReachState d
+    → ReachState ((receiveMark d m) .state)
 unfolding executing unmade
-receive-reach N d m s p pe r = go (receive-case N d m s)
+receive-reach d m p pe r = go (receive-case d m)
   where
     here : T (not (has (m .id) (ids (d .executed)) || has (m .id) (ids (d .waiting)))) → T (not (has (m .id) (ids (d .executed))))
     here n = nor-fst (has (m .id) (ids (d .executed))) (has (m .id) (ids (d .waiting))) n
@@ -275,4 +353,4 @@ receive-reach N d m s p pe r = go (receive-case N d m s)
     go : {r : Received} → ReceiveCase d m r → ReachState (r .state)
     go (stays a z) = r
     go (waits a b c n p) = record { sound = r .sound; wait = (wait a, r .wait) }
-    go (executes a b c) = release-reach (d .own) (length (d .waiting)) (m ∷ d .executed) (d .waiting) 1 0 (execute-reach d m p r a b c)
+    go (executes a b c) = release-reach (d .own) (length (d .waiting)) (reckoned (d .executed) m ∷ d .executed) (d .waiting) 1 0 (execute-reach d m p r a b c)

@@ -29,6 +29,6 @@ pub mark-refused : (N : ℕ) (st : State) (b : MarkBox) (out : List ℕ) (c : �
 unfolding mark
 mark-refused N st b out c = go (markAnswer N st b (length out))
   where
-    go : (a : Answer Numbered) → a ≡ refused c → (stateIf a (execute (newMark st b) st) st ≡ st) × (overIf a (frameOfMark N (newMark st b)) out ≡ out)
+    go : (a : Answer Numbered) → a ≡ refused c → (stateIf a (execute (newMark st b) st) st ≡ st) × (overIf a (frameOfMark (newMark st b)) out ≡ out)
     go (gives n) e = absurd (gives-refused n c e)
     go (refused k) e = (refl, refl)

@@ -14,7 +14,7 @@ use Rattle.frame.specs.Mark.{MarkId}
 use Rattle.causality.specs.Answers.{Numbered}
 use Rattle.causality.specs.Calls.{Received, Release, execute, executing, full, mark, markAnswer, newMark, receiveMark, release, stateIf}
 use Rattle.causality.specs.Marks.{All, all, has, lower, lowest, places, same, waitingPlaces, without}
-use Rattle.causality.specs.State.{Mark, State, falseStamp, ids, markId, previous, ready}
+use Rattle.causality.specs.State.{Mark, State, falseStamp, ids, markId, previous, ready, reckoned}
 use Rattle.causality.proofs.Cases.{ReceiveCase, executes, mark-gives, receive-case, stays, waits}
 use Rattle.causality.proofs.Lists.{InList, all-at, all-intro, lowest-in, without-lt}
 use Rattle.causality.proofs.Logic.{and-fst, and-intro, and-snd, or-cases, or-inl, or-inr, same→eq}
@@ -50,7 +50,7 @@ release-rest (suc turns) l ws k f q = go (lowest markId (ready l) ws) refl (rele
         by true x = let r = ih l (without markId (w .id) ws) k (suc f) le in let t = s in
             let a = r .total in let b = r .fewer in
             rw (e, release) (rw x (record { total = omega arith; fewer = omega arith; quiet = r .quiet }))
-        by false x = let r = ih (w ∷ l) (without markId (w .id) ws) (suc k) f le in let t = s in
+        by false x = let r = ih (reckoned l w ∷ l) (without markId (w .id) ws) (suc k) f le in let t = s in
             let a = r .total in let b = r .fewer in
             rw (e, release) (rw x (record { total = omega arith; fewer = omega arith; quiet = r .quiet }))
 
@@ -69,9 +69,9 @@ pub record Still (l ws : List Mark) : Type 0 where
 abbrev pub StillState : State → Type 0
 StillState d = Still (d .executed) (d .waiting)
 
-pub receive-still : (N : ℕ) (d : State) (m : Mark) (s : List ℕ) → StillState d → StillState ((receiveMark N d m s) .state)
+pub receive-still : (d : State) (m : Mark) → StillState d → StillState ((receiveMark d m) .state)
 unfolding executing full
-receive-still N d m s r = go (receive-case N d m s)
+receive-still d m r = go (receive-case d m)
   where
     neq : (x n : ℕ) → eqb x n ≡ false → x ≡ n → ⊥
     neq x n e q = T-not (eqb x n) (rw e tt) (subst (λ (k : ℕ). T (eqb x k)) q (eqb-refl x))
@@ -85,10 +85,10 @@ receive-still N d m s r = go (receive-case N d m s)
         record { room = record { total = omega arith; few = omega arith }; quiet = (rw b tt, r .quiet) }
     go (executes a b c) =
         let n1 : ¬ (length (d .executed) + length (d .waiting) ≡ places) = neq (length (d .executed) + length (d .waiting)) places (a .room) in
-        let x = release-rest (length (d .waiting)) (m ∷ d .executed) (d .waiting) 1 0 (omega arith) in
+        let x = release-rest (length (d .waiting)) (reckoned (d .executed) m ∷ d .executed) (d .waiting) 1 0 (omega arith) in
         let t = x .total in let f = x .fewer in
         let p = r .room .total in let q = r .room .few in
-        let y = release (length (d .waiting)) (m ∷ d .executed) (d .waiting) 1 0 in
+        let y = release (length (d .waiting)) (reckoned (d .executed) m ∷ d .executed) (d .waiting) 1 0 in
         record { room = record { total = omega arith; few = omega arith }; quiet = none-all (ready (y .executed)) (y .waiting) (x .quiet) }
 
 pub mark-still : (N : ℕ) (d : State) (box : MarkBox) (out : List ℕ) → ReachState d → StillState d → StillState ((mark N d box out) .state)

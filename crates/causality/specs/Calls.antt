@@ -1,4 +1,4 @@
--- The seven calls of document 01, as functions of the state, of bytes and of lent memory. Conditions by rising number.
+-- The seven calls of document 01 and the two conversions of order 3, as functions of the state, of bytes and of lent memory. Conditions by rising number.
 use mathlib.Core.Bool.{Bool, true, false, not, _&&_, _||_}
 use mathlib.Core.List.{List, [], _∷_, _++_, reverse}
 use mathlib.Core.Option.{none, some}
@@ -7,12 +7,14 @@ use lib.Dec.{ltb, eqb}
 use lib.ListN.{length}
 use Rattle.frame.specs.Answer.{Answer, gives, refused, refuseIf}
 use Rattle.frame.specs.Mark.{MarkId, isDesk, boxRule}
-use Rattle.frame.specs.Frame.{edition, entriesOf, entryBytes, fieldsOf, frameOf, readFields, readEntries, writeSize, overIf}
+use Rattle.frame.specs.Frame.{entriesOf, entryBytes, fieldsOf, frameOf, readFields, readEntries, writeSize, overIf}
 use Rattle.frame.specs.declared.Fields.{Fields}
 use Rattle.frame.specs.declared.MarkBox.{MarkBox}
+use Rattle.frame.specs.declared.Past.{Past}
+use Rattle.frame.specs.declared.Past.the-variants.{Unsaid, Said}
 use Rattle.causality.specs.Answers.{Numbered, Reply, Known, Waiting, Executed, Relation, Same, Before, After, Concurrent}
 use Rattle.causality.specs.Marks.{places, waitingPlaces, same, any, keep, has, tally, find, without, lowest}
-use Rattle.causality.specs.State.{Mark, markId, State, ids, precedes, concurrent, heads, ready, missing, falseStamp}
+use Rattle.causality.specs.State.{Mark, markId, State, ids, precedes, reckoned, concurrent, heads, ready, missing, sameCount, falseStamp, withPast}
 
 -- NEW
 
@@ -27,24 +29,25 @@ pub record Created : Type 0 where
 unfoldable pub new : ℕ → ℕ → Created
 new N d = elim (isDesk N d) [ true ↦ record { state = empty d; answer = gives d } | false ↦ record { state = empty 1; answer = refused 1 } ]
 
--- FRAMES OF MARKS
+-- FRAMES OF MARKS, of edition 2 where the past is said, else of edition 1
 
 unfoldable pub fieldsOfMark : Mark → Fields
-fieldsOfMark m = record { desk = m .id .desk; number = record { 0 = m .id .number }; extent = m .extent }
+fieldsOfMark m = record { desk = m .id .desk; number = record { 0 = m .id .number }; extent = m .extent; past = m .past }
 
-unfoldable pub frameOfMark : ℕ → Mark → List ℕ
-frameOfMark N m = frameOf (edition N) (fieldsOfMark m) (entryBytes (m .stamp))
+unfoldable pub frameOfMark : Mark → List ℕ
+frameOfMark m = frameOf (fieldsOfMark m) (entryBytes (m .stamp))
 
 -- "written as by the writer; its size is returned".
 unfoldable pub sizeOfMark : ℕ → Mark → ℕ → Answer ℕ
-sizeOfMark N m lent = writeSize (edition N) (fieldsOfMark m) (entryBytes (m .stamp)) lent
+sizeOfMark N m lent = writeSize N (fieldsOfMark m) (entryBytes (m .stamp)) lent
 
 -- The mark that a frame spells.
 unfoldable pub markIn : ℕ → List ℕ → Mark
 markIn N s = record {
   id = record { desk = fieldsOf s .desk; number = fieldsOf s .number .0 };
   extent = fieldsOf s .extent;
-  stamp = entriesOf (readEntries (edition N) s);
+  stamp = entriesOf (readEntries N s);
+  past = fieldsOf s .past;
 }
 
 -- MARK
@@ -53,12 +56,13 @@ markIn N s = record {
 unfoldable pub full : State → Bool
 full st = eqb (length (st .executed) + length (st .waiting)) places
 
--- "a box becomes this desk's next number, stamped with the heads".
+-- "a box becomes this desk's next number, stamped with the heads"; all executed marks precede it.
 unfoldable pub newMark : State → MarkBox → Mark
 newMark st b = record {
   id = record { desk = st .own; number = suc (tally (st .own) (ids (st .executed))) };
   extent = b;
   stamp = heads (st .executed);
+  past = Said (length (st .executed));
 }
 
 -- "its number and the frame's size are returned".
@@ -89,7 +93,7 @@ unfoldable pub mark : ℕ → State → MarkBox → List ℕ → Marked
 mark N st b out = record {
   state = stateIf (markAnswer N st b (length out)) (execute (newMark st b) st) st;
   answer = markAnswer N st b (length out);
-  bytes = overIf (markAnswer N st b (length out)) (frameOfMark N (newMark st b)) out;
+  bytes = overIf (markAnswer N st b (length out)) (frameOfMark (newMark st b)) out;
 }
 
 -- RECEIVE
@@ -117,14 +121,14 @@ release (suc turns) executed waiting k f =
       | none ↦ record { executed = executed; waiting = waiting; k = k; f = f }
       | some w ↦ elim (falseStamp executed w) [
         | true ↦ release turns executed (without markId (w .id) waiting) k (suc f)
-        | false ↦ release turns (w ∷ executed) (without markId (w .id) waiting) (suc k) f
+        | false ↦ release turns (reckoned executed w ∷ executed) (without markId (w .id) waiting) (suc k) f
       ]
     ]
 
 -- "k counts all executed by the call, f the dropped".
 unfoldable pub executing : State → Mark → Received
 executing st m =
-    let r = release (length (st .waiting)) (m ∷ st .executed) (st .waiting) 1 0 in
+    let r = release (length (st .waiting)) (reckoned (st .executed) m ∷ st .executed) (st .waiting) 1 0 in
     record { state = record { own = st .own; executed = r .executed; waiting = r .waiting }; answer = gives (Executed (r .k) (r .f)) }
 
 -- A mark that is neither executed nor waiting here: 9; "not ready, 64 waiting": 10; "ready, false stamp": 11. Order 1: "Waiting carries that number".
@@ -148,20 +152,27 @@ arrive st m =
 unfoldable pub unmade : State → MarkId → Bool
 unmade st i = eqb (i .desk) (st .own) && ltb (tally (st .own) (ids (st .executed))) (i .number)
 
-abbrev pub sameBytes : List ℕ → List ℕ → Bool
-sameBytes [] [] = true
-sameBytes [] (b ∷ bs) = false
-sameBytes (a ∷ as′) [] = false
-sameBytes (a ∷ as′) (b ∷ bs) = eqb a b && sameBytes as′ bs
+abbrev pub sameBox : MarkBox → MarkBox → Bool
+sameBox a b = eqb (a .start) (b .start) && (eqb (a .end) (b .end) && (eqb (a .low) (b .low) && eqb (a .high) (b .high)))
 
--- "Known (executed or waiting here with the same bytes)"; 8: "same mark executed or waiting with other bytes".
-unfoldable pub receiveMark : ℕ → State → Mark → List ℕ → Received
-receiveMark N st m s =
+abbrev pub sameEntries : List MarkId → List MarkId → Bool
+sameEntries [] [] = true
+sameEntries [] (f ∷ fs) = false
+sameEntries (e ∷ es) [] = false
+sameEntries (e ∷ es) (f ∷ fs) = same e f && sameEntries es fs
+
+-- Of a mark held and a frame's of the same name: "Frames of one mark are the same if their fields agree, past count included where both have it".
+unfoldable pub sameFields : Mark → Mark → Bool
+sameFields h m = sameBox (h .extent) (m .extent) && (sameEntries (h .stamp) (m .stamp) && sameCount (h .past) (m .past))
+
+-- "Known (executed or waiting here with the same ..)", which "leaves the desk as it was"; 8: "same mark executed or waiting with other ..".
+unfoldable pub receiveMark : State → Mark → Received
+receiveMark st m =
     elim (unmade st (m .id) || any (unmade st) (m .stamp)) [
       | true ↦ refuse st 7
       | false ↦ elim (find markId (m .id) (st .executed ++ st .waiting)) [
         | none ↦ arrive st m
-        | some h ↦ elim (sameBytes (frameOfMark N h) s) [ true ↦ record { state = st; answer = gives Known } | false ↦ refuse st 8 ]
+        | some h ↦ elim (sameFields h m) [ true ↦ record { state = st; answer = gives Known } | false ↦ refuse st 8 ]
       ]
     ]
 
@@ -170,7 +181,7 @@ ifRead (gives f) st r = r
 ifRead (refused c) st r = refuse st c
 
 unfoldable pub receive : ℕ → State → List ℕ → Received
-receive N st s = ifRead (readFields (edition N) s) st (receiveMark N st (markIn N s) s)
+receive N st s = ifRead (readFields N s) st (receiveMark st (markIn N s))
 
 -- QUERIES: the state stays as it is
 
@@ -221,17 +232,53 @@ firstApart N st a d =
     refuseIf (not (isDesk N d)) 1 (refuseIf (not (isExecuted st a)) 12
     (gives (lowestNumber d (keep (concurrent (st .executed) a) (earlier a (ids (st .executed)))))))
 
--- "the frame of an executed mark, written as by the writer; its size is returned".
+-- "the frame of an executed mark, written as by the writer; its size is returned": of edition 2, since its past is said.
 unfoldable pub frameAgainSize : ℕ → State → MarkId → ℕ → Answer ℕ
 frameAgainSize N st a lent = elim (find markId a (st .executed)) [ none ↦ refused 12 | some m ↦ sizeOfMark N m lent ]
 
 unfoldable pub frameAgainBytes : ℕ → State → MarkId → List ℕ → List ℕ
 frameAgainBytes N st a out =
-    elim (find markId a (st .executed)) [ none ↦ out | some m ↦ overIf (sizeOfMark N m (length out)) (frameOfMark N m) out ]
+    elim (find markId a (st .executed)) [ none ↦ out | some m ↦ overIf (sizeOfMark N m (length out)) (frameOfMark m) out ]
+
+-- CONVERSIONS: "A converter turns 1 into 2 at a desk that has executed the mark, and 2 into 1 by leaving the count out." 2 to 6, then 14
+
+abbrev pub isSaid : Past → Bool
+isSaid Unsaid = false
+isSaid (Said n) = true
+
+-- What is answered of the fields read; a refusal stays.
+abbrev pub andThen : {A B : Type 0} → Answer A → (A → Answer B) → Answer B
+andThen (gives a) f = f a
+andThen (refused c) f = refused c
+
+-- From 1 to 2: "14, frame already of the wanted edition, after 6; then come 12 and 8 .., then 13". It is the frame that Frame again writes.
+unfoldable pub toSecondMark : ℕ → State → Mark → ℕ → Answer ℕ
+toSecondMark N st m lent =
+    refuseIf (isSaid (m .past)) 14 (elim (find markId (m .id) (st .executed)) [
+      | none ↦ refused 12
+      | some h ↦ refuseIf (not (sameFields h m)) 8 (frameAgainSize N st (m .id) lent)
+    ])
+
+unfoldable pub toSecondSize : ℕ → State → List ℕ → ℕ → Answer ℕ
+toSecondSize N st s lent = andThen (readFields N s) (λ f. toSecondMark N st (markIn N s) lent)
+
+unfoldable pub toSecondBytes : ℕ → State → List ℕ → List ℕ → List ℕ
+toSecondBytes N st s out =
+    elim (toSecondSize N st s (length out)) [ gives n ↦ frameAgainBytes N st (markIn N s .id) out | refused c ↦ out ]
+
+-- From 2 to 1: "14, ..; .. then 13".
+unfoldable pub toFirstMark : ℕ → Mark → ℕ → Answer ℕ
+toFirstMark N m lent = refuseIf (not (isSaid (m .past))) 14 (sizeOfMark N (withPast m Unsaid) lent)
+
+unfoldable pub toFirstSize : ℕ → List ℕ → ℕ → Answer ℕ
+toFirstSize N s lent = andThen (readFields N s) (λ f. toFirstMark N (markIn N s) lent)
+
+unfoldable pub toFirstBytes : ℕ → List ℕ → List ℕ → List ℕ
+toFirstBytes N s out = overIf (toFirstSize N s (length out)) (frameOfMark (withPast (markIn N s) Unsaid)) out
 
 -- WHERE A DESK COMES FROM
 
--- "A desk comes only from New and these calls", whatever bytes it was lent. The queries give the desk that they took.
+-- "A desk comes only from New and these calls", whatever bytes it was lent. The queries and the conversions give the desk that they took.
 pub data FromCalls (N : ℕ) : State → Type 0 where
   created : (d : ℕ) → FromCalls N (new N d .state)
   marked : {st : State} → FromCalls N st → (b : MarkBox) (out : List ℕ) → FromCalls N (mark N st b out .state)

@@ -1,18 +1,25 @@
--- One desk as document 01 says it, on lists: its marks, precedence, heads, ready marks and false stamps.
+-- One desk as document 01 says it, on lists: its marks, precedence, reckoning, heads, ready marks and false stamps.
 use mathlib.Core.Bool.{Bool, true, false, not, _&&_, _||_, cond}
 use mathlib.Core.List.{List, [], _∷_}
 use Prim.Native.Nat.{ℕ, _+_, _-_}
-use lib.Dec.{T, leb, ltb}
+use lib.Dec.{T, eqb, leb, ltb}
 use lib.ListN.{length}
 use Rattle.frame.specs.Mark.{MarkId}
 use Rattle.frame.specs.declared.MarkBox.{MarkBox}
+use Rattle.frame.specs.declared.Past.{Past}
+use Rattle.frame.specs.declared.Past.the-variants.{Unsaid, Said}
 use Rattle.causality.specs.Marks.{same, any, all, keep, has, rising}
 
--- A mark (operation) with its box and its stamp. A stamp is the paper's direct causal vector (Definition 4).
+-- A mark (operation) with its box, its stamp and what is said of its past. A stamp is the paper's direct causal vector (Definition 4). Of an
+-- executed mark the past is said; a waiting one that came in edition 1 leaves it unsaid.
 pub record Mark : Type 0 where
   pub id : MarkId
   pub extent : MarkBox
   pub stamp : List MarkId
+  pub past : Past
+
+abbrev pub withPast : Mark → Past → Mark
+withPast m p = record { id = m .id; extent = m .extent; stamp = m .stamp; past = p }
 
 abbrev pub markId : Mark → MarkId
 markId m = m .id
@@ -34,6 +41,14 @@ abbrev pub precedes : List Mark → MarkId → MarkId → Bool
 precedes [] a b = false
 precedes (m ∷ older) a b =
     elim (same b (m .id)) [ true ↦ any (λ e. same a e || precedes older a e) (m .stamp) | false ↦ precedes older a b ]
+
+-- "The past count is the number of marks that precede the mark": the desk's own reckoning, of a mark executed there.
+unfoldable pub reckoning : List Mark → MarkId → ℕ
+reckoning executed i = length (keep (λ a. precedes executed a i) (ids executed))
+
+-- A ready mark with the reckoning in the place of what its frame said: as it is executed. "for an executed mark the desk's reckoning is its count".
+abbrev pub reckoned : List Mark → Mark → Mark
+reckoned executed m = withPast m (Said (reckoning (m ∷ executed) (m .id)))
 
 -- "Two different marks of which neither precedes the other are concurrent."
 unfoldable pub concurrent : List Mark → MarkId → MarkId → Bool
@@ -69,10 +84,20 @@ unfoldable pub missing : List Mark → Mark → ℕ
 missing executed m = length (missingEntries executed m) + cond (lacksPrevious executed m) 1 0
 
 -- "A ready mark has a false stamp if one entry precedes another, or if number > 1 and its desk's previous mark neither is an entry nor precedes one."
-unfoldable pub falseStamp : List Mark → Mark → Bool
-falseStamp executed m =
+unfoldable pub falseEntries : List Mark → Mark → Bool
+falseEntries executed m =
     any (λ e. any (λ f. precedes executed e f) (m .stamp)) (m .stamp)
     || (ltb 1 (m .id .number) && not (any (λ e. same (previous (m .id)) e || precedes executed (previous (m .id)) e) (m .stamp)))
+
+-- Do two say the same of a past, "where both have it"?
+abbrev pub sameCount : Past → Past → Bool
+sameCount Unsaid p = true
+sameCount (Said a) Unsaid = true
+sameCount (Said a) (Said b) = eqb a b
+
+-- "A past count unequal to the desk's own reckoning makes the stamp false."
+unfoldable pub falseStamp : List Mark → Mark → Bool
+falseStamp executed m = falseEntries executed m || not (sameCount (m .past) (Said (reckoning (m ∷ executed) (m .id))))
 
 -- Definition 2, of executed marks: a precedes b directly if it precedes b and precedes no mark that precedes b. Definition 4: the direct
 -- causal vector of b has just the marks that precede it directly.

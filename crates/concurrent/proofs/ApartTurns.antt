@@ -10,7 +10,6 @@ use mathlib.Core.Logic.{inl, inr}
 use mathlib.Core.Path.{_∙_, _≡_, ap, refl, subst, sym}
 use native.Mathlib.Numerals.{add-one, sub-one}
 use native.Mathlib.Omega.{arith}
-use Rattle.frame.specs.declared.MarkBox.{MarkBox}
 use Rattle.frame.specs.Mark.{MarkId}
 use Rattle.causality.specs.Marks.{keep, places, same}
 use Rattle.causality.specs.State.{Mark, concurrent, ids, precedes}
@@ -18,7 +17,7 @@ use Rattle.causality.proofs.Apart.{follower-cong, follower-new, followers, note
 use Rattle.causality.proofs.Logic.{T→eq, nT→eq, same-refl, same→eq, split}
 use Rattle.causality.proofs.Reach.{Sound}
 use Rattle.pairs.specs.declared.Listed.{Listed}
-use Rattle.rows.specs.View.{markAt, namesDown, rowAt, rowFn, view}
+use Rattle.rows.specs.View.{Carried, markAt, namesDown, rowAt, rowFn, view}
 use Rattle.rows.proofs.Arrays.{sound-below}
 use Rattle.rows.proofs.Places.{has-at, not-before, precedes-no-earlier, precedes-there}
 use Rattle.rows.proofs.RowSteps.{not-leb}
@@ -106,8 +105,8 @@ module _ (n : ℕ) (ds ns ss : List ℕ) (count p : ℕ) where
     pub small : list .count ≤ q
     pub spare : Spare list
     pub long : length first ≡ n
-    pub rows : (bs : ℕ → MarkBox) → Sound (view n count ds ns bs ss) → (d : ℕ) → 1 ≤ d → d ≤ n → rowFn first d ≡ followers given (view n q ds ns bs ss) d
-    pub names : (bs : ℕ → MarkBox) → Sound (view n count ds ns bs ss)
+    pub rows : (bs : ℕ → Carried) → Sound (view n count ds ns bs ss) → (d : ℕ) → 1 ≤ d → d ≤ n → rowFn first d ≡ followers given (view n q ds ns bs ss) d
+    pub names : (bs : ℕ → Carried) → Sound (view n count ds ns bs ss)
         → namesDown (list .count) (list .desks) (list .numbers) ≡ keep (concurrent (view n count ds ns bs ss) given) (ids (view n q ds ns bs ss))
 
   module _ (q : ℕ) (first : List ℕ) (list : Listed) (w : ApartTo q first list) (h : p < count) (l : q < count) where
@@ -118,7 +117,7 @@ module _ (n : ℕ) (ds ns ss : List ℕ) (count p : ℕ) where
     abbrev test : Bool
     test = leb p q && names
 
-    module _ (bs : ℕ → MarkBox) (s : Sound (view n count ds ns bs ss)) where
+    module _ (bs : ℕ → Carried) (s : Sound (view n count ds ns bs ss)) where
       abbrev m : Mark
       m = markAt n ds ns bs ss q
 
@@ -179,11 +178,11 @@ module _ (n : ℕ) (ds ns ss : List ℕ) (count p : ℕ) where
 
     -- Of every sound history, whether the mark is the given one or follows it is b.
     abbrev Told : Bool → Type 0
-    Told b = (bs : ℕ → MarkBox) → Sound (view n count ds ns bs ss) → names ≡ b
+    Told b = (bs : ℕ → Carried) → Sound (view n count ds ns bs ss) → names ≡ b
 
     step-rows : (first′ : List ℕ) (b : Bool) → Told b
         → ((d : ℕ) → 1 ≤ d → d ≤ n → rowFn first′ d ≡ elim b [ true ↦ noted (rowFn first) (record { desk = getD ds q 0; number = getD ns q 0 }) d | false ↦ rowFn first d ])
-        → (bs : ℕ → MarkBox) → Sound (view n count ds ns bs ss) → (d : ℕ) → 1 ≤ d → d ≤ n → rowFn first′ d ≡ followers given (view n (q + 1) ds ns bs ss) d
+        → (bs : ℕ → Carried) → Sound (view n count ds ns bs ss) → (d : ℕ) → 1 ≤ d → d ≤ n → rowFn first′ d ≡ followers given (view n (q + 1) ds ns bs ss) d
     unfolding view
     step-rows first′ b e f bs s d lo hi = f d lo hi ∙ go b (e bs s) ∙ ap (λ (k : ℕ). followers given (view n k ds ns bs ss) d) (sym (add-one q))
       where
@@ -194,9 +193,9 @@ module _ (n : ℕ) (ds ns ss : List ℕ) (count p : ℕ) where
         go true e = rw (sym (names-is bs s) ∙ e, followers) (λ i. elim (eqb d (getD ds q 0) && eqb (g i) 0) [ true ↦ getD ns q 0 | false ↦ g i ])
         go false e = rw (sym (names-is bs s) ∙ e, followers) g
 
-    module _ (past : List ℕ) (told : (bs : ℕ → MarkBox) → Sound (view n count ds ns bs ss) → PastTold n ds ns bs ss count p past) where
-      step-names : (b : Bool) → ((bs : ℕ → MarkBox) → Sound (view n count ds ns bs ss) → (not names && ltb (rowFn past (getD ds q 0)) (getD ns q 0)) ≡ b)
-          → (bs : ℕ → MarkBox) → Sound (view n count ds ns bs ss)
+    module _ (past : List ℕ) (told : (bs : ℕ → Carried) → Sound (view n count ds ns bs ss) → PastTold n ds ns bs ss count p past) where
+      step-names : (b : Bool) → ((bs : ℕ → Carried) → Sound (view n count ds ns bs ss) → (not names && ltb (rowFn past (getD ds q 0)) (getD ns q 0)) ≡ b)
+          → (bs : ℕ → Carried) → Sound (view n count ds ns bs ss)
           → let P = concurrent (view n count ds ns bs ss) given in
           keep P (ids (view n (q + 1) ds ns bs ss)) ≡ cond b (record { desk = getD ds q 0; number = getD ns q 0 } ∷ keep P (ids (view n q ds ns bs ss))) (keep P (ids (view n q ds ns bs ss)))
       unfolding view
@@ -268,7 +267,7 @@ module _ (n : ℕ) (ds ns ss : List ℕ) (count p : ℕ) where
   apart-none list e x = record { turns = omega arith; small = omega arith; spare = x; long = length-replicate {A = ℕ} n 0; rows = λ bs s d lo hi. zeros n (d - 1); names = λ bs s. rw e refl }
 
   pub apart-all : (q : ℕ) (first : List ℕ) (list : Listed) → ApartTo q first list → count ≤ q
-      → (list .count ≤ count) × Spare list × ((bs : ℕ → MarkBox) → Sound (view n count ds ns bs ss)
+      → (list .count ≤ count) × Spare list × ((bs : ℕ → Carried) → Sound (view n count ds ns bs ss)
       → namesDown (list .count) (list .desks) (list .numbers) ≡ keep (concurrent (view n count ds ns bs ss) ((markAt n ds ns bs ss p) .id)) (ids (view n count ds ns bs ss)))
   apart-all q first list w h =
       let t = w .turns in

@@ -22,7 +22,7 @@ use Rattle.causality.proofs.Logic.{split}
 use Rattle.causality.proofs.Refusals.{mark-refused, receive-refused}
 use Rattle.causality.proofs.RowLaws.{entriesOfRow, row-of-entries}
 use Rattle.causality.proofs.Rows.{rowOf}
-use Rattle.rows.specs.View.{Slots, ZeroFrom, boxAt, markAt, rowAt, view, width}
+use Rattle.rows.specs.View.{Carried, Slots, ZeroFrom, boxAt, carriedAt, markAt, pastFrom, rowAt, view, width}
 use Rattle.rows.proofs.Arrays.{view-length}
 use Rattle.executed.specs.Rows.{Chained, Rows}
 use Rattle.desk.specs.Promises.{MarkPromise, ReceivePromise}
@@ -59,7 +59,7 @@ down-at f g (suc k) e p h = elim (split (ltb p k)) [
   | inr t ↦ let q = nltb→le p k t in let s : k ≡ p = omega arith in let r : f k ≡ g k = cc in subst (λ (x : ℕ). f x ≡ g x) s r
 ]
 
-view-down : (n count : ℕ) (ds ns : List ℕ) (bs : ℕ → MarkBox) (ss : List ℕ) → view n count ds ns bs ss ≡ down (markAt n ds ns bs ss) count
+view-down : (n count : ℕ) (ds ns : List ℕ) (bs : ℕ → Carried) (ss : List ℕ) → view n count ds ns bs ss ≡ down (markAt n ds ns bs ss) count
 unfolding view
 view-down n zero ds ns bs ss = refl
 view-down n (suc p) ds ns bs ss = ap (λ (l : List Mark). markAt n ds ns bs ss p ∷ l) (view-down n p ds ns bs ss)
@@ -81,23 +81,31 @@ box-same xs ys p e (suc (suc zero)) h = ap (λ (b : MarkBox). b .low) e
 box-same xs ys p e (suc (suc (suc zero))) h = ap (λ (b : MarkBox). b .high) e
 box-same xs ys p e (suc (suc (suc (suc j)))) h = let z : ⊥ = omega arith in absurd z
 
+-- The number that stands for a past is settled by it.
+from-same : (n m : ℕ) → pastFrom n ≡ pastFrom m → n ≡ m
+from-same zero zero e = refl
+from-same zero (suc m) e = let z : _≡_ {A = ℕ} 0 1 = cc in omega arith
+from-same (suc n) zero e = let z : _≡_ {A = ℕ} 0 1 = cc in omega arith
+from-same (suc n) (suc m) e = let z : n ≡ m = cc in omega arith
+
 -- Arrays whose unused slots are zero are settled by the marks that they are.
-slots-same : (n c c′ : ℕ) (ds ns bs ss ds′ ns′ bs′ ss′ : List ℕ) → Slots n c ds ns bs ss → Slots n c′ ds′ ns′ bs′ ss′
-    → view width c ds ns (boxAt bs) ss ≡ view width c′ ds′ ns′ (boxAt bs′) ss′ → (c ≡ c′) × (ds ≡ ds′) × (ns ≡ ns′) × (bs ≡ bs′) × (ss ≡ ss′)
-slots-same n c c′ ds ns bs ss ds′ ns′ bs′ ss′ u v e = (
+slots-same : (n c c′ : ℕ) (ds ns bs ps ss ds′ ns′ bs′ ps′ ss′ : List ℕ) → Slots n c ds ns bs ps ss → Slots n c′ ds′ ns′ bs′ ps′ ss′
+    → view width c ds ns (carriedAt bs ps) ss ≡ view width c′ ds′ ns′ (carriedAt bs′ ps′) ss′ → (c ≡ c′) × (ds ≡ ds′) × (ns ≡ ns′) × (bs ≡ bs′) × (ps ≡ ps′) × (ss ≡ ss′)
+slots-same n c c′ ds ns bs ps ss ds′ ns′ bs′ ps′ ss′ u v e = (
   same,
   zero-ext n c c′ ds ds′ (u .desks) (v .desks) same (λ p h. ap (λ (m : Mark). m .id .desk) (at p h)),
   zero-ext n c c′ ns ns′ (u .numbers) (v .numbers) same (λ p h. ap (λ (m : Mark). m .id .number) (at p h)),
   zero-ext (n * 4) (c * 4) (c′ * 4) bs bs′ (u .boxes) (v .boxes) (ap (λ (k : ℕ). k * 4) same) (by-rows 4 c bs bs′ (λ p j h. box-same bs bs′ p (ap (λ (m : Mark). m .extent) (at p h)) j)),
+  zero-ext n c c′ ps ps′ (u .pasts) (v .pasts) same (λ p h. from-same (getD ps p 0) (getD ps′ p 0) (ap (λ (m : Mark). m .past) (at p h))),
   zero-ext (n * width) (c * width) (c′ * width) ss ss′ (u .stamps) (v .stamps) (ap (λ (k : ℕ). k * width) same) (by-rows width c ss ss′ (λ p j h. stamp-same width ss ss′ p (ap (λ (m : Mark). m .stamp) (at p h)) j)),
 )
   where
     same : c ≡ c′
-    same = sym (view-length width c ds ns (boxAt bs) ss) ∙ ap length e ∙ view-length width c′ ds′ ns′ (boxAt bs′) ss′
+    same = sym (view-length width c ds ns (carriedAt bs ps) ss) ∙ ap length e ∙ view-length width c′ ds′ ns′ (carriedAt bs′ ps′) ss′
 
-    at : (p : ℕ) → p < c → markAt width ds ns (boxAt bs) ss p ≡ markAt width ds′ ns′ (boxAt bs′) ss′ p
-    at = down-at (markAt width ds ns (boxAt bs) ss) (markAt width ds′ ns′ (boxAt bs′) ss′) c
-        (sym (view-down width c ds ns (boxAt bs) ss) ∙ e ∙ view-down width c′ ds′ ns′ (boxAt bs′) ss′ ∙ ap (down (markAt width ds′ ns′ (boxAt bs′) ss′)) (sym same))
+    at : (p : ℕ) → p < c → markAt width ds ns (carriedAt bs ps) ss p ≡ markAt width ds′ ns′ (carriedAt bs′ ps′) ss′ p
+    at = down-at (markAt width ds ns (carriedAt bs ps) ss) (markAt width ds′ ns′ (carriedAt bs′ ps′) ss′) c
+        (sym (view-down width c ds ns (carriedAt bs ps) ss) ∙ e ∙ view-down width c′ ds′ ns′ (carriedAt bs′ ps′) ss′ ∙ ap (down (markAt width ds′ ns′ (carriedAt bs′ ps′) ss′)) (sym same))
 
 -- The chain is settled by the names.
 chained-same : (is : List MarkId) (bf bf′ : List ℕ) → Chained is bf → Chained is bf′ → (p : ℕ) → p < length is → getD bf p 0 ≡ getD bf′ p 0
@@ -125,24 +133,25 @@ pub one-desk : (d e : Desk) → Kept d → Kept e → stateOf d ≡ stateOf e �
 one-desk d e kd ke s =
     let o = ap (λ (st : State). st .own) s in
     let l = ap (λ (st : State). st .executed) s in
-    let x = slots-same places (d .count) (e .count) (d .desks) (d .numbers) (d .boxes) (d .stamps) (e .desks) (e .numbers) (e .boxes) (e .stamps) (kd .ordered .slots) (ke .ordered .slots) l in
+    let x = slots-same places (d .count) (e .count) (d .desks) (d .numbers) (d .boxes) (d .pasts) (d .stamps) (e .desks) (e .numbers) (e .boxes) (e .pasts) (e .stamps) (kd .ordered .slots) (ke .ordered .slots) l in
     let rs = rows-same ((stateOf d) .executed) (d .tally) (d .heads) (d .last) (d .before) (e .tally) (e .heads) (e .last) (e .before) (kd .ordered .rows)
     (subst (λ (m : List Mark). Rows m (e .tally) (e .heads) (e .last) (e .before)) (sym l) (ke .ordered .rows)) in
     let q = d .queue in
     let r = e .queue in
-    let w = slots-same waitingPlaces (q .count) (r .count) (q .desks) (q .numbers) (q .boxes) (q .stamps) (r .desks) (r .numbers) (r .boxes) (r .stamps) (kd .queued .slots) (ke .queued .slots) (ap (λ (st : State). st .waiting) s) in
+    let w = slots-same waitingPlaces (q .count) (r .count) (q .desks) (q .numbers) (q .boxes) (q .pasts) (q .stamps) (r .desks) (r .numbers) (r .boxes) (r .pasts) (r .stamps) (kd .queued .slots) (ke .queued .slots) (ap (λ (st : State). st .waiting) s) in
     λ i. record {
       own = o i;
       count = x .0 i;
       desks = x .1 i;
       numbers = x .2 i;
       boxes = x .3 i;
-      stamps = x .4 i;
+      pasts = x .4 i;
+      stamps = x .5 i;
       tally = rs .0 i;
       heads = rs .1 i;
       last = rs .2 i;
       before = rs .3 i;
-      queue = record { count = w .0 i; desks = w .1 i; numbers = w .2 i; boxes = w .3 i; stamps = w .4 i };
+      queue = record { count = w .0 i; desks = w .1 i; numbers = w .2 i; boxes = w .3 i; pasts = w .4 i; stamps = w .5 i };
     }
 
 -- A refused Receive returns the very desk.

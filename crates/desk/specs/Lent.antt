@@ -20,6 +20,7 @@ deskOf own a q = record {
   desks = a .desks;
   numbers = a .numbers;
   boxes = a .boxes;
+  pasts = a .pasts;
   stamps = a .stamps;
   tally = a .tally;
   heads = a .heads;
@@ -45,10 +46,10 @@ Receiving own a q b r frame answer = ReceivePromise (deskOf own a q) frame (reco
 abbrev pub EachDesk : {A : Type 0} → (A → Arrays) → (Desk → Type 0) → Type 0
 EachDesk a P = (own : ℕ) (rest : _) (queue : Waiting) → Kept (deskOf own (a rest) queue) → P (deskOf own (a rest) queue)
 
--- What Relate and First apart are lent: no count, boxes or heads.
-abbrev pub queryLent : RefT (List ℕ) → RefT (List ℕ) → RefT (List ℕ) → RefT (List ℕ) → RefT (List ℕ) → RefT (List ℕ) → ℕ × List ℕ × List ℕ → Arrays
-queryLent ds ns ss ts ls bf x = arrays (x .0) (ds .now) (ns .now) (x .1) (ss .now) (ts .now) (x .2) (ls .now) (bf .now)
+-- What Relate and First apart are lent: no count, boxes, pasts or heads.
+abbrev pub queryLent : RefT (List ℕ) → RefT (List ℕ) → RefT (List ℕ) → RefT (List ℕ) → RefT (List ℕ) → RefT (List ℕ) → ℕ × List ℕ × List ℕ × List ℕ → Arrays
+queryLent ds ns ss ts ls bf x = arrays (x .0) (ds .now) (ns .now) (x .1) (x .2) (ss .now) (ts .now) (x .3) (ls .now) (bf .now)
 
--- What Apart is lent: no boxes or heads.
-abbrev pub apartLent : ℕ → RefT (List ℕ) → RefT (List ℕ) → RefT (List ℕ) → RefT (List ℕ) → RefT (List ℕ) → RefT (List ℕ) → List ℕ × List ℕ → Arrays
-apartLent count ds ns ss ts ls bf x = arrays count (ds .now) (ns .now) (x .0) (ss .now) (ts .now) (x .1) (ls .now) (bf .now)
+-- What Apart is lent: no boxes, pasts or heads.
+abbrev pub apartLent : ℕ → RefT (List ℕ) → RefT (List ℕ) → RefT (List ℕ) → RefT (List ℕ) → RefT (List ℕ) → RefT (List ℕ) → List ℕ × List ℕ × List ℕ → Arrays
+apartLent count ds ns ss ts ls bf x = arrays count (ds .now) (ns .now) (x .0) (x .1) (ss .now) (ts .now) (x .2) (ls .now) (bf .now)

@@ -7,9 +7,11 @@ use Rattle.frame.specs.Frame.{writing}
 use Rattle.frame.specs.Mark.{desks}
 use Rattle.frame.specs.declared.MarkBox.{MarkBox}
 use Rattle.causality.specs.declared.MarkId.{MarkId}
-use Rattle.causality.specs.Calls.{new, mark, receive, relate, apartCount, apartPairs, firstApart, frameAgainSize, frameAgainBytes}
+use Rattle.causality.specs.Calls.{new, mark, receive, relate, apartCount, apartPairs, firstApart, frameAgainSize, frameAgainBytes, toSecondSize, toSecondBytes}
 use Rattle.causality.specs.Meaning.{idOf, creation, numbering, reception, relating, counting, lowestGiven}
+use Rattle.frame.specs.declared.Writing.{Writing}
 use Rattle.concurrent.specs.Found.{ApartFound}
+use Rattle.in_place.specs.Lent.{ToFirstIn}
 use Rattle.desk.specs.declared.Desk.{Desk}
 use Rattle.desk.specs.declared.CreatedDesk.{CreatedDesk}
 use Rattle.desk.specs.declared.MarkedDesk.{MarkedDesk}
@@ -59,3 +61,13 @@ pub record FrameAgainPromise (d : Desk) (a : MarkId) (out after : List ℕ) (r :
   pub desk : r .desk ≡ d
   pub answer : writing (r .answer) ≡ frameAgainSize desks (stateOf d) (idOf a) (length out)
   pub bytes : after ≡ frameAgainBytes desks (stateOf d) (idOf a) out
+
+-- THE CONVERTER: from 1 to 2 at a desk, from 2 to 1 without one
+
+pub record ToSecondPromise (d : Desk) (s out after : List ℕ) (r : WrittenDesk) : Type 0 where
+  pub desk : r .desk ≡ d
+  pub answer : writing (r .answer) ≡ toSecondSize desks (stateOf d) s (length out)
+  pub bytes : after ≡ toSecondBytes desks (stateOf d) s out
+
+abbrev pub ToFirstPromise : List ℕ → List ℕ → List ℕ → Writing → Type 0
+ToFirstPromise s out after r = ToFirstIn s out after r

@@ -14,6 +14,7 @@ impl Desk {
             &self.desks,
             &self.numbers,
             &self.boxes,
+            &self.pasts,
             &self.stamps,
             &self.tally,
             &self.last,

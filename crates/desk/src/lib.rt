@@ -1,5 +1,6 @@
-// One desk's causality engine: the seven calls.
+// One desk's causality engine: the seven calls, and the converter.
 mod apart;
+mod convert;
 mod first_apart;
 mod frame_again;
 mod mark;
@@ -20,8 +21,9 @@ use rows::PLACES;
 use rows::WIDTH;
 use waiting::Waiting;
 
-// A desk (site): its executed marks by place, each with its stamp as a row; what is kept of them: for each desk how many there are, its head or 0, the place
-// of its last plus 1, and by place that of the desk's previous mark plus 1; and its waiting marks. Unused slots are zero.
+// A desk (site): its executed marks by place, each with one more than how many precede it and with its stamp as a row; what is kept of them: for each
+// desk how many there are, its head or 0, the place of its last plus 1, and by place that of the desk's previous mark plus 1; and its waiting marks.
+// Unused slots are zero.
 #[repr(C)]
 pub struct Desk {
     own: u8,
@@ -29,6 +31,7 @@ pub struct Desk {
     desks: [u8; PLACES],
     numbers: [u16; PLACES],
     boxes: [u32; PLACES * BOX],
+    pasts: [u16; PLACES],
     stamps: [u16; PLACES * WIDTH],
     tally: [u16; WIDTH],
     heads: [u16; WIDTH],

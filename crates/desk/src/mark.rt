@@ -16,6 +16,7 @@ impl Desk {
         let mut desks = self.desks;
         let mut numbers = self.numbers;
         let mut boxes = self.boxes;
+        let mut pasts = self.pasts;
         let mut stamps = self.stamps;
         let mut tally = self.tally;
         let mut heads = self.heads;
@@ -29,6 +30,7 @@ impl Desk {
             &mut desks,
             &mut numbers,
             &mut boxes,
+            &mut pasts,
             &mut stamps,
             &mut tally,
             &mut heads,
@@ -45,6 +47,7 @@ impl Desk {
                 desks: desks,
                 numbers: numbers,
                 boxes: boxes,
+                pasts: pasts,
                 stamps: stamps,
                 tally: tally,
                 heads: heads,

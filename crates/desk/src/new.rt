@@ -23,6 +23,7 @@ fn blank(own: u8) -> Desk
         desks: [0; PLACES],
         numbers: [0; PLACES],
         boxes: [0; PLACES * BOX],
+        pasts: [0; PLACES],
         stamps: [0; PLACES * WIDTH],
         tally: [0; WIDTH],
         heads: [0; WIDTH],

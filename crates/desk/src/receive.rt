@@ -16,6 +16,7 @@ impl Desk {
         let mut desks = self.desks;
         let mut numbers = self.numbers;
         let mut boxes = self.boxes;
+        let mut pasts = self.pasts;
         let mut stamps = self.stamps;
         let mut tally = self.tally;
         let mut heads = self.heads;
@@ -26,6 +27,7 @@ impl Desk {
         let mut wdesks = queue.desks;
         let mut wnumbers = queue.numbers;
         let mut wboxes = queue.boxes;
+        let mut wpasts = queue.pasts;
         let mut wstamps = queue.stamps;
         let answer = in_place::receive::receiving(
             own,
@@ -33,6 +35,7 @@ impl Desk {
             &mut desks,
             &mut numbers,
             &mut boxes,
+            &mut pasts,
             &mut stamps,
             &mut tally,
             &mut heads,
@@ -42,6 +45,7 @@ impl Desk {
             &mut wdesks,
             &mut wnumbers,
             &mut wboxes,
+            &mut wpasts,
             &mut wstamps,
             frame,
         );
@@ -52,6 +56,7 @@ impl Desk {
                 desks: desks,
                 numbers: numbers,
                 boxes: boxes,
+                pasts: pasts,
                 stamps: stamps,
                 tally: tally,
                 heads: heads,
@@ -62,6 +67,7 @@ impl Desk {
                     desks: wdesks,
                     numbers: wnumbers,
                     boxes: wboxes,
+                    pasts: wpasts,
                     stamps: wstamps,
                 },
             },

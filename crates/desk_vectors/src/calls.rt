@@ -6,6 +6,7 @@ use causality::MarkId;
 use desk::Desk;
 use frame::MarkBox;
 use frame::Number;
+use frame::Past;
 
 // New.
 pub fn new(own: u8) -> Desk
@@ -82,6 +83,17 @@ pub fn hand_over(own: u8, desk: Desk, frames: &[u8], slot: u8) -> Desk
     show::number(b"desk ", own as u64);
     show::name(b" receives ", frames::at(frames, slot));
     receive_from(b"", desk, frames, slot)
+}
+
+// Receive of a mark d.n with this past and these entries, which no desk need have written.
+pub fn receive_stamped(label: &[u8], desk: Desk, d: u8, n: u16, past: Past, entries: &[u8]) -> Desk
+    requires { ⌜ Kept desk ⌝ }
+    ensures { λ r. ⌜ Kept r ⌝ }
+{
+    let mut space = [0u8; frames::ROOM];
+    let out: &mut [u8] = &mut space;
+    frames::stamped(d, n, past, entries, out);
+    receive(label, desk, frames::whole(out))
 }
 
 fn mark_id(d: u8, n: u16) -> MarkId {

@@ -15,7 +15,7 @@ fn boxed(label: &[u8], extent: MarkBox, frame: &[u8], out: &mut [u8]) -> Desk
     calls::receive(label, b, frame)
 }
 
-// That frame is the one that Mark wrote.
+// That frame is edition 1 of the one that Mark wrote.
 fn accepted(label: &[u8], extent: MarkBox, frame: &[u8]) {
     let mut space = [0u8; frames::ROOM];
     let out: &mut [u8] = &mut space;

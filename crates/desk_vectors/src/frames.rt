@@ -2,10 +2,11 @@
 use frame::Fields;
 use frame::MarkBox;
 use frame::Number;
+use frame::Past;
 use rows::WIDTH;
 
 // The size of the largest frame.
-pub const ROOM: usize = 23 + 3 * WIDTH;
+pub const ROOM: usize = 25 + 3 * WIDTH;
 
 // What every byte holds before it is lent, where a case shows those that a call keeps.
 pub const FILL: u8 = 0x77;
@@ -55,20 +56,21 @@ pub fn extent() -> MarkBox {
     boxed(1000, 1500, 100)
 }
 
-// A mark with these entries.
-pub fn stamped(desk: u8, number: u16, entries: &[u8], out: &mut [u8]) {
+// A mark with this past and these entries.
+pub fn stamped(desk: u8, number: u16, past: Past, entries: &[u8], out: &mut [u8]) {
     frame::writer::write(
         Fields {
             desk: desk,
             number: Number(number),
             extent: extent(),
+            past: past,
         },
         entries,
         out,
     );
 }
 
-// The document's frame of 1.2, in 32 bytes.
+// The document's frame of 1.2, of edition 1, in 32 bytes.
 pub fn document(frame: &mut [u8]) {
     let hex =
         b"\x00\x1E\x01\x01\x00\x02\x00\x00\x03\xE8\x00\x00\x05\xDC\x00\x00\x00\x64\x00\x00\x01\x90\x03\x01\x00\x01\x02\x00\x01\x03\x00\x01";

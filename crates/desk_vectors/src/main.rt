@@ -1,6 +1,7 @@
-// Runs document 01's cases of the seven calls and document 02's, a line each; Apart by its list, with no reference. The file stdout has what the documents say.
+// Runs document 01's cases of the seven calls and document 02's, the converter's among them, a line each; Apart by its list, with no reference. The file stdout has what the documents say.
 mod calls;
 mod clicks;
+mod editions;
 mod frames;
 mod limits;
 mod missing;
@@ -18,6 +19,7 @@ fn main() {
     refusals::receive();
     missing::run();
     clicks::run();
+    editions::run();
     limits::waiting();
     limits::full();
     sixteen::run();

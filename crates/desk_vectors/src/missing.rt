@@ -1,14 +1,11 @@
 // Order 1: how many marks a waiting mark is short of. Fresh desks, and frames that no desk need have written.
 use crate::calls;
-use crate::frames;
+use frame::Past;
 
 // A fresh desk receives a mark with these entries.
 fn fresh(label: &[u8], own: u8, desk: u8, number: u16, entries: &[u8]) {
-    let mut space = [0u8; frames::ROOM];
-    let out: &mut [u8] = &mut space;
-    frames::stamped(desk, number, entries, out);
     let d = calls::new(own);
-    calls::receive(label, d, frames::whole(out));
+    calls::receive_stamped(label, d, desk, number, Past::Unsaid, entries);
 }
 
 // The previous mark is missing where it is no entry, and is counted once where it is one.

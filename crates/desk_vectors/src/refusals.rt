@@ -3,6 +3,7 @@ use crate::calls;
 use crate::frames;
 use crate::show;
 use frame::DESKS;
+use frame::Past;
 
 pub fn new() {
     calls::new(0);
@@ -17,7 +18,7 @@ pub fn new() {
 
 // Mark of a fresh desk into so many bytes.
 fn lend(label: &[u8], lent: usize) {
-    let mut space = [frames::FILL; 25];
+    let mut space = [frames::FILL; 27];
     let out: &mut [u8] = &mut space;
     let d = calls::new(1);
     let e = calls::mark_first(label, d, out, lent);
@@ -26,8 +27,8 @@ fn lend(label: &[u8], lent: usize) {
 }
 
 pub fn lent() {
-    lend(b"Mark into 22 bytes", 22);
-    lend(b"Mark into 23 bytes", 23);
+    lend(b"Mark into 24 bytes", 24);
+    lend(b"Mark into 25 bytes", 25);
 }
 
 // 1.1 and 1.2 of desk 1, and 1.2 with an empty stamp, in slots 0 to 2.
@@ -37,7 +38,7 @@ fn stamps(frames: &mut [u8]) {
     calls::mark_in(b, 1, 2, frames, 1);
     let start = frames::start_of(2);
     if start <= frames.len() {
-        frames::stamped(1, 2, b"", &mut frames[start..]);
+        frames::stamped(1, 2, Past::Unsaid, b"", &mut frames[start..]);
     }
 }
 
@@ -94,7 +95,8 @@ fn short(own: u8) {
 pub fn receive() {
     short(2);
     altered(b"hex frame of 1.2", 2, 2, 1);
-    altered(b"version 2", 2, 2, 2);
+    altered(b"version 3", 2, 2, 3);
+    altered(b"version 2, 32 bytes", 2, 2, 2);
     altered(b"17 entries counted", 2, 22, DESKS + 1);
     altered(b"desk 17", 2, 3, DESKS + 1);
     altered(b"entry (4,1) before (3,1)", 2, 26, 4);

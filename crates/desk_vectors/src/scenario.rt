@@ -131,11 +131,11 @@ fn again(desk: Desk, frames: &mut [u8])
     calls::hand_over(3, desk, frames, 40);
 }
 
-// Frame again of 4.n into the first of 31 bytes.
+// Frame again of 4.n into the first of 33 bytes.
 fn lend(desk: Desk, n: u16, lent: usize)
     requires { ⌜ Kept desk ⌝ }
 {
-    let mut space = [frames::FILL; 31];
+    let mut space = [frames::FILL; 33];
     let out: &mut [u8] = &mut space;
     calls::frame_again_first(desk, 4, n, out, lent);
     show::bytes(b"bytes", out);
@@ -144,9 +144,9 @@ fn lend(desk: Desk, n: u16, lent: usize)
 fn lent(desk: Desk)
     requires { ⌜ Kept desk ⌝ }
 {
-    lend(desk, 1, 28);
-    lend(desk, 1, 29);
-    lend(desk, 2, 29);
+    lend(desk, 1, 30);
+    lend(desk, 1, 31);
+    lend(desk, 2, 31);
 }
 
 pub fn run() {

@@ -44,6 +44,14 @@ pub fn mark(label: &[u8], d: u8, n: u16) {
     number(b".", n as u64);
 }
 
+// The past count, which a frame of edition 2 has.
+fn past(frame: &[u8]) {
+    if byte_at(frame, 2) == 2 {
+        let count = both(byte_at(frame, 23), byte_at(frame, 24));
+        number(b", past ", count as u64);
+    }
+}
+
 // The entry of a stamp that starts at a byte.
 fn entry(part: &[u8], i: usize) {
     if i < part.len() {
@@ -98,7 +106,9 @@ fn made(n: u16, size: usize, out: &[u8]) {
     number(b": number ", n as u64);
     number(b", size ", size as u64);
     if size <= out.len() {
-        stamp(frame::reader::entries(&out[0..size]));
+        let frame = &out[0..size];
+        past(frame);
+        stamp(frame::reader::entries(frame));
     }
 }
 

@@ -9,7 +9,6 @@ use mathlib.Core.Option.{Option, none, some}
 use mathlib.Core.Path.{_∙_, _≡_, ap, refl, subst, sym}
 use native.Mathlib.Omega.{arith}
 use Rattle.frame.specs.Mark.{MarkId}
-use Rattle.frame.specs.declared.MarkBox.{MarkBox}
 use Rattle.causality.specs.Marks.{find, has, places, same, tally}
 use Rattle.causality.specs.State.{Mark, ids, markId}
 use Rattle.causality.proofs.Lists.{find-has, isSome}
@@ -18,7 +17,7 @@ use Rattle.causality.proofs.Past.{Counted, fresh-of, prefix-has, prefix-le, tal
 use Rattle.executed.specs.Rows.{Chain, Chained, Finds, Lent, PlaceOf, Rows, lastIn, placeIn}
 use Rattle.executed.proofs.HeadRow.{eq→eqb}
 use Rattle.executed.proofs.Keeping.{ids-length}
-use Rattle.rows.specs.View.{Named, markAt, namesDown, noBox, placeAt, view, width}
+use Rattle.rows.specs.View.{Carried, Named, carriedAt, markAt, namesDown, placeAt, view, width}
 use Rattle.rows.proofs.Arrays.{view-length}
 use Rattle.rows.proofs.Places.{ids-names, named-has}
 use Rattle.causality.proofs.Reach.{Sound, sound-counted}
@@ -133,7 +132,7 @@ module _ (is : List MarkId) (ts ls bf : List ℕ) (c : Chain is ts ls bf) (a : M
 -- PLACES AS INDICES OF THE ARRAYS
 
 -- The mark whose name has a place stands there. w: how many counts a row has.
-module _ (w : ℕ) (ds ns : List ℕ) (bs : ℕ → MarkBox) (ss : List ℕ) where
+module _ (w : ℕ) (ds ns : List ℕ) (bs : ℕ → Carried) (ss : List ℕ) where
   at-place : (count : ℕ) (a : MarkId) (p : ℕ) → placeIn (ids (view w count ds ns bs ss)) a ≡ suc p → (p < count) × (find markId a (view w count ds ns bs ss) ≡ some (markAt w ds ns bs ss p))
   unfolding view
   at-place zero a p e = let z : ⊥ = omega arith in absurd z
@@ -151,7 +150,7 @@ module _ (w : ℕ) (ds ns : List ℕ) (bs : ℕ → MarkBox) (ss : List ℕ) whe
 -- LENT ARRAYS
 
 -- Those of marks that stand behind what they follow.
-pub lent-of : (count : ℕ) (ds ns : List ℕ) (bs : ℕ → MarkBox) (ss ts hs ls bf : List ℕ) → Rows (view width count ds ns bs ss) ts hs ls bf → Sound (view width count ds ns bs ss)
+pub lent-of : (count : ℕ) (ds ns : List ℕ) (bs : ℕ → Carried) (ss ts hs ls bf : List ℕ) → Rows (view width count ds ns bs ss) ts hs ls bf → Sound (view width count ds ns bs ss)
     → Named width count ds → count ≤ places → Lent count ds ns ts ls bf
 lent-of count ds ns bs ss ts hs ls bf r s f h = record {
   few = h;
@@ -167,14 +166,14 @@ lent-of count ds ns bs ss ts hs ls bf r s f h = record {
 }
 
 module _ (count : ℕ) (ds ns ts ls bf : List ℕ) (l : Lent count ds ns ts ls bf) (a : MarkId) (r : ℕ) (f : Finds ts ls bf a r) where
-  place-in : (bs : ℕ → MarkBox) (ss : List ℕ) → PlaceOf (ids (view width count ds ns bs ss)) a r
+  place-in : (bs : ℕ → Carried) (ss : List ℕ) → PlaceOf (ids (view width count ds ns bs ss)) a r
   place-in bs ss = rw (ids-names width ds ns bs ss count) (f (namesDown count ds ns) (l .chain))
 
   -- A place that is found is one of the marks', and else the mark is not executed.
   pub found-inside : r < places → r < count
-  found-inside h = at-place width ds ns (λ p. noBox) [] count a r (place-in (λ p. noBox) [] .stands h) .0
+  found-inside h = at-place width ds ns (carriedAt [] []) [] count a r (place-in (carriedAt [] []) [] .stands h) .0
 
-  pub found-place : (bs : ℕ → MarkBox) (ss : List ℕ) → placeAt width count r ds ns bs ss ≡ find markId a (view width count ds ns bs ss)
+  pub found-place : (bs : ℕ → Carried) (ss : List ℕ) → placeAt width count r ds ns bs ss ≡ find markId a (view width count ds ns bs ss)
   unfolding placeAt
   found-place bs ss = elim (split (ltb r places)) [
     | inl t ↦ let h = at-place width ds ns bs ss count a r (place-in bs ss .stands (ltb→lt r places t)) in rw (lt-ltb r count (h .0), placeAt) (sym (h .1))

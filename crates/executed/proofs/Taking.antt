@@ -12,7 +12,7 @@ use Rattle.causality.specs.Marks.{places}
 use Rattle.causality.specs.State.{Mark, ids}
 use Rattle.causality.proofs.Logic.{T→eq, nT→eq, split}
 use Rattle.causality.proofs.RowLaws.{entries-strict, row-of-entries}
-use Rattle.rows.specs.View.{boxAt, heldMark, rowFn, view, width}
+use Rattle.rows.specs.View.{carriedAt, heldMark, rowFn, view, width}
 use Rattle.rows.specs.Steps.{Stored}
 use Rattle.rows.specs.declared.Held.{Held}
 use Rattle.rows.proofs.Arrays.{view-length}
@@ -28,17 +28,18 @@ turned-set : (n e v : ℕ) (row h₀ h : List ℕ) → length h ≡ n → 1 ≤ 
 turned-set n e v row h₀ h len p q f = set-desk n e v h (λ j. struck (getD row j 0) (getD h₀ j 0)) len p q f
 
 -- What the code stores.
-module _ (a : Arrays) (h : Held) (t : Takes h a) (ds ns bs ss hs : List ℕ) (x : Stored (a .count) h (a .desks) (a .numbers) (a .boxes) (a .stamps) ds ns bs ss) (y : Struck (h .row) (a .heads) hs) where
+module _ (a : Arrays) (h : Held) (t : Takes h a) (ds ns bs ps ss hs : List ℕ)
+    (x : Stored (a .count) h (a .desks) (a .numbers) (a .boxes) (a .pasts) (a .stamps) ds ns bs ps ss) (y : Struck (h .row) (a .heads) hs) where
   abbrev after : Arrays
-  after = arrays (a .count + 1) ds ns bs ss (set (a .tally) (h .desk - 1) (h .number .0)) (set hs (h .desk - 1) (h .number .0))
+  after = arrays (a .count + 1) ds ns bs ps ss (set (a .tally) (h .desk - 1) (h .number .0)) (set hs (h .desk - 1) (h .number .0))
       (set (a .last) (h .desk - 1) (a .count + 1)) (set (a .before) (a .count) (getD (a .last) (h .desk - 1) 0))
 
   marks : executedIn after ≡ heldMark h ∷ executedIn a
-  marks = stored-view places (a .count) h (a .desks) (a .numbers) (a .boxes) (a .stamps) ds ns bs ss (t .ordered .slots) (t .room) x
+  marks = stored-view places (a .count) h (a .desks) (a .numbers) (a .boxes) (a .pasts) (a .stamps) ds ns bs ps ss (t .ordered .slots) (t .room) x
 
   -- As many names as the count says.
   names : length (ids (executedIn a)) ≡ a .count
-  names = ids-length (executedIn a) ∙ view-length width (a .count) (a .desks) (a .numbers) (boxAt (a .boxes)) (a .stamps)
+  names = ids-length (executedIn a) ∙ view-length width (a .count) (a .desks) (a .numbers) (carriedAt (a .boxes) (a .pasts)) (a .stamps)
 
   rows : Rows (heldMark h ∷ executedIn a) (after .tally) (after .heads) (after .last) (after .before)
   rows = subst (λ (k : ℕ). Rows (heldMark h ∷ executedIn a) (after .tally) (after .heads) (set (a .last) (h .desk - 1) (k + 1)) (set (a .before) k (getD (a .last) (h .desk - 1) 0))) names
@@ -50,7 +51,7 @@ module _ (a : Arrays) (h : Held) (t : Takes h a) (ds ns bs ss hs : List ℕ) (x 
   took = record {
     one = let z : a .count + 1 ≡ a .count + 1 = omega arith in z;
     ordered = record {
-      slots = stored-slots places (a .count) h (a .desks) (a .numbers) (a .boxes) (a .stamps) ds ns bs ss (t .ordered .slots) (t .room) x;
+      slots = stored-slots places (a .count) h (a .desks) (a .numbers) (a .boxes) (a .pasts) (a .stamps) ds ns bs ps ss (t .ordered .slots) (t .room) x;
       rows = subst (λ (l : List Mark). Rows l (after .tally) (after .heads) (after .last) (after .before)) (sym marks) rows;
     };
     marks = marks;

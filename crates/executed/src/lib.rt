@@ -37,6 +37,7 @@ pub fn execute(
     desks: &mut [u8; PLACES],
     numbers: &mut [u16; PLACES],
     boxes: &mut [u32; PLACES * BOX],
+    pasts: &mut [u16; PLACES],
     stamps: &mut [u16; PLACES * WIDTH],
     tally: &mut [u16; WIDTH],
     heads: &mut [u16; WIDTH],
@@ -44,15 +45,15 @@ pub fn execute(
     before: &mut [u16; PLACES],
     h: Held,
 )
-    requires { ⌜ Takes h (here count desks numbers boxes stamps tally heads last before) ⌝ }
-    ensures { λ _. ⌜ Took h (found count desks numbers boxes stamps tally heads last before)
-        (left count desks numbers boxes stamps tally heads last before) ⌝ }
+    requires { ⌜ Takes h (here count desks numbers boxes pasts stamps tally heads last before) ⌝ }
+    ensures { λ _. ⌜ Took h (found count desks numbers boxes pasts stamps tally heads last before)
+        (left count desks numbers boxes pasts stamps tally heads last before) ⌝ }
 {
     let at = *count;
     let number = h.number;
     let row = h.row;
     let d = h.desk as usize - 1;
-    rows::store(desks, numbers, boxes, stamps, at, h);
+    rows::store(desks, numbers, boxes, pasts, stamps, at, h);
     strike(heads, row);
     heads[d] = number.0;
     tally[d] = number.0;

@@ -36,6 +36,15 @@ pub fn mark(frame: &mut [u8]) {
     );
 }
 
+// The same mark in edition 2, with the past count 3, in 34 bytes.
+pub fn mark2(frame: &mut [u8]) {
+    put(
+        frame,
+        0,
+        b"\x00\x20\x02\x01\x00\x02\x00\x00\x03\xE8\x00\x00\x05\xDC\x00\x00\x00\x64\x00\x00\x01\x90\x03\x00\x03\x01\x00\x01\x02\x00\x01\x03\x00\x01",
+    );
+}
+
 // Entries (1,1), (2,1), (3,1) and so on to (17,1), in 51 bytes.
 pub fn rising(part: &mut [u8]) {
     put(

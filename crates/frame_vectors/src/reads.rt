@@ -1,12 +1,6 @@
-// The reader's cases. Each frame is the document's frame of mark 1.2, or is made from it.
+// The reader's cases of edition 1. Each frame is the document's frame of mark 1.2, or is made from it.
 use crate::frames;
 use crate::show;
-
-fn first(label: &[u8], frame: &[u8], size: usize) {
-    if size <= frame.len() {
-        show::read(label, &frame[0..size]);
-    }
-}
 
 // The frame cut to a size, or with zeros behind it, and its length field.
 fn sized(label: &[u8], size: usize, length: u16) {
@@ -14,7 +8,7 @@ fn sized(label: &[u8], size: usize, length: u16) {
     let frame: &mut [u8] = &mut space;
     frames::mark(frame);
     frames::put2(frame, 0, length);
-    first(label, frame, size);
+    show::first(label, frame, size);
 }
 
 // The frame with another byte, two bytes or four bytes from `at` on.
@@ -27,7 +21,7 @@ fn two(label: &[u8], at: usize, value: u16) {
     let frame: &mut [u8] = &mut space;
     frames::mark(frame);
     frames::put2(frame, at, value);
-    first(label, frame, 32);
+    show::first(label, frame, 32);
 }
 
 fn four(label: &[u8], at: usize, value: u32) {
@@ -41,7 +35,7 @@ fn bytes(label: &[u8], at: usize, value: u8, later: usize, other: u8) {
     frames::mark(frame);
     frames::put(frame, at, &[value]);
     frames::put(frame, later, &[other]);
-    first(label, frame, 32);
+    show::first(label, frame, 32);
 }
 
 fn fours(label: &[u8], at: usize, value: u32, later: usize, other: u32) {
@@ -50,7 +44,7 @@ fn fours(label: &[u8], at: usize, value: u32, later: usize, other: u32) {
     frames::mark(frame);
     frames::put4(frame, at, value);
     frames::put4(frame, later, other);
-    first(label, frame, 32);
+    show::first(label, frame, 32);
 }
 
 // The frame with other entries, and the length and the count of these.
@@ -62,7 +56,7 @@ fn entries(label: &[u8], part: &[u8]) {
         frames::put(frame, 1, &[(21 + part.len()) as u8]);
         frames::put(frame, 22, &[(part.len() / 3) as u8]);
         frames::put(frame, 23, part);
-        first(label, frame, 23 + part.len());
+        show::first(label, frame, 23 + part.len());
     }
 }
 
@@ -107,7 +101,7 @@ pub fn length_cases() {
 
 pub fn version_cases() {
     byte(b"version 0", 2, 0);
-    byte(b"version 2", 2, 2);
+    byte(b"version 3", 2, 3);
     byte(b"version 255", 2, 255);
 }
 
@@ -175,9 +169,9 @@ pub fn desk_order_cases() {
 
 // Where two conditions hold, the lower number is returned.
 pub fn lowest_number_cases() {
-    bytes(b"length and version", 1, 31, 2, 2);
-    bytes(b"version and count", 2, 2, 22, 17);
-    bytes(b"version and desk", 2, 2, 3, 0);
+    bytes(b"length and version", 1, 31, 2, 3);
+    bytes(b"version and count", 2, 3, 22, 17);
+    bytes(b"version and desk", 2, 3, 3, 0);
     bytes(b"count and desk", 22, 2, 3, 17);
     bytes(b"count and entry", 22, 4, 23, 0);
     bytes(b"desk and entry", 3, 0, 23, 0);

@@ -1,5 +1,6 @@
 // A case's line: its label, what the call answered in decimal, and bytes in hex.
 use frame::Fields;
+use frame::Past;
 use frame::Reading;
 use frame::Refusal;
 use frame::Writing;
@@ -39,15 +40,28 @@ fn kept(s: &[u8]) {
     }
 }
 
-fn fields(f: Fields) {
+// The fields that both editions have.
+fn values(words: &[u8], f: Fields) {
     let mark = f.number;
     let extent = f.extent;
-    number(b": fields ", f.desk as u64);
+    number(words, f.desk as u64);
     number(b" ", mark.0 as u64);
     number(b" ", extent.start as u64);
     number(b" ", extent.end as u64);
     number(b" ", extent.low as u64);
     number(b" ", extent.high as u64);
+}
+
+// The fields, and in edition 2 the past count.
+fn fields(f: Fields) {
+    let past = f.past;
+    match past {
+        Past::Unsaid => values(b": fields ", f),
+        Past::Said(n) => {
+            values(b": fields2 ", f);
+            number(b" ", n as u64);
+        }
+    }
 }
 
 // Both calls of the reader: the fields or the refusal, and the entries.
@@ -59,6 +73,13 @@ pub fn read(label: &[u8], frame: &[u8]) {
     }
     bytes(b", entries ", frame::reader::entries(frame));
     io::write_all(1, b"\n");
+}
+
+// The same of the first so many bytes.
+pub fn first(label: &[u8], frame: &[u8], size: usize) {
+    if size <= frame.len() {
+        read(label, &frame[0..size]);
+    }
 }
 
 fn written(size: usize, out: &[u8]) {

@@ -1,12 +1,13 @@
-// The writer's cases: fields and entries, and how many bytes are lent.
+// The writer's cases of edition 1: fields and entries, and how many bytes are lent.
 use crate::frames;
 use crate::show;
 use frame::Fields;
 use frame::MarkBox;
 use frame::Number;
+use frame::Past;
 use frame::Reading;
 
-fn lend(label: &[u8], f: Fields, entries: &[u8], lent: usize) {
+pub fn lend(label: &[u8], f: Fields, entries: &[u8], lent: usize) {
     let mut space = [show::FILL; 80];
     let out: &mut [u8] = &mut space;
     if lent <= out.len() {
@@ -14,7 +15,7 @@ fn lend(label: &[u8], f: Fields, entries: &[u8], lent: usize) {
     }
 }
 
-fn fields(desk: u8, number: u16, start: u32, end: u32, low: u32, high: u32) -> Fields {
+pub fn fields(desk: u8, number: u16, start: u32, end: u32, low: u32, high: u32) -> Fields {
     Fields {
         desk,
         number: Number(number),
@@ -24,11 +25,12 @@ fn fields(desk: u8, number: u16, start: u32, end: u32, low: u32, high: u32) -> F
             low,
             high,
         },
+        past: Past::Unsaid,
     }
 }
 
 // A mark with the box of the document's frame.
-fn mark(desk: u8, number: u16) -> Fields {
+pub fn mark(desk: u8, number: u16) -> Fields {
     fields(desk, number, 1000, 1500, 100, 400)
 }
 
@@ -53,7 +55,7 @@ fn entry(label: &[u8], f: Fields, desk: u8, lent: usize) {
 }
 
 // Writes what the reader finds.
-fn again(label: &[u8], frame: &[u8], size: usize, lent: usize) {
+pub fn again(label: &[u8], frame: &[u8], size: usize, lent: usize) {
     if size <= frame.len() {
         let read = &frame[0..size];
         match frame::reader::fields(read) {

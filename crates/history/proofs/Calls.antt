@@ -1,6 +1,5 @@
 -- The desk and the plain machine, call by call: release, Receive and Mark do what the machine does. Assumes nothing.
 use Prim.Native.Nat.{_*_, _+_, _-_, _≤_, suc, zero, ℕ}
-use borrow.Author.Tests.{eq-eqb}
 use lib.Dec.{T, T-not, eqb, leb, ltb, not-T}
 use lib.ListN.{length, length-map}
 use mathlib.Core.Bool.{Bool, _||_, cond, false, not, true}
@@ -10,24 +9,22 @@ use mathlib.Core.Option.{Option, Option·map, none, some}
 use mathlib.Core.Path.{_∙_, _≡_, ap, refl, subst, sym}
 use native.Mathlib.Omega.{arith}
 use Rattle.frame.specs.declared.MarkBox.{MarkBox}
+use Rattle.frame.specs.declared.Past.the-variants.{Said}
 use Rattle.frame.specs.Answer.{Answer, gives, refused}
 use Rattle.frame.specs.Frame.{overIf}
 use Rattle.frame.specs.Mark.{MarkId, boxRule}
 use Rattle.causality.specs.Answers.{Executed, Known, Numbered, Reception, Reply}
-use Rattle.causality.specs.Calls.{Received, Release, arrive, execute, executing, frameOfMark, full, mark, markAnswer, newMark, receiveMark, refuse, release, sameBytes, stateIf, unmade}
+use Rattle.causality.specs.Calls.{Received, Release, arrive, execute, executing, frameOfMark, full, mark, markAnswer, newMark, receiveMark, refuse, release, sameFields, stateIf, unmade}
 use Rattle.causality.specs.Marks.{All, all, any, find, has, insert, keep, lower, lowest, rising, same, tally, waitingPlaces, without}
-use Rattle.causality.specs.State.{Mark, State, falseStamp, heads, ids, isHead, markId, precedes, ready}
+use Rattle.causality.specs.State.{Mark, State, falseStamp, heads, ids, isHead, markId, precedes, ready, reckoned, sameCount, withPast}
 use Rattle.causality.proofs.Fit.{Fit, fit-size, markSize}
 use Rattle.causality.proofs.Kept.{Kept, new-fit}
 use Rattle.causality.proofs.Lists.{Picked, absent-all, all-append, all-map, any-cong, find-all, find-has, has-append, ids-append, isSome, lowest-picked, nor-fst, nor-snd, without-all}
 use Rattle.causality.proofs.Logic.{or-cases, same-refl, same→eq}
-use Rattle.causality.proofs.Past.{Good, Standing, not-false-stamp, precedes-past, ready-past, ready-stands, tally-le}
+use Rattle.causality.proofs.Past.{Good, Standing, Stands, precedes-past, ready-past, ready-stands, tally-le}
+use Rattle.causality.proofs.Reckoning.{Once, not-false-stamp, reckoned-past, stands-with}
 use Rattle.history.specs.Plain.{DeskLists, MadeMark, Outcome, executeReady, frameSize, handOver, isLast, leaveOut, listsFull, madeId, madeIds, making, newMade, pastListed}
 use Rattle.history.specs.Run.{withoutMissing}
-
-same-bytes-refl : (s : List ℕ) → sameBytes s s ≡ true
-same-bytes-refl [] = refl
-same-bytes-refl (x ∷ s) = rw (eq-eqb x x refl) (same-bytes-refl s)
 
 -- past: of each mark made in the whole sequence
 module _ (past : MarkId → List MarkId) where
@@ -81,8 +78,21 @@ module _ (past : MarkId → List MarkId) where
   abbrev pub listsOf : State → DeskLists
   listsOf d = record { listed = map madeOf (d .executed); waiting = map madeOf (d .waiting) }
 
+  -- A mark with the number of marks of its past; and what a mark says of it is the truth.
+  abbrev pub truth : Mark → Mark
+  truth m = withPast m (Said (length (past (m .id))))
+
+  pub record Told (m : Mark) : Type 0 where
+    pub once : Once (past (m .id))
+    pub honest : T (sameCount (m .past) (Said (length (past (m .id)))))
+
   -- K: what is known of each mark that a desk holds
   module _ (K : Mark → Type 0) where
+    -- So much is known that the mark can be executed.
+    pub record Closed : Type 0 where
+      pub told : (m : Mark) → K m → Told m
+      pub whole : (m : Mark) → K m → K (truth m)
+
     pub record Unlisted (l : List Mark) (w : Mark) : Type 0 where
       pub good : Good past w
       pub fresh : T (not (has (w .id) (ids l)))
@@ -104,7 +114,7 @@ module _ (past : MarkId → List MarkId) where
     release-none turns l ws k f e = rw (e, release)
 
     release-some : (turns : ℕ) (l ws : List Mark) (k f : ℕ) (w : Mark) → lowest markId (ready l) ws ≡ some w → falseStamp l w ≡ false
-        → release (suc turns) l ws k f ≡ release turns (w ∷ l) (without markId (w .id) ws) (suc k) f
+        → release (suc turns) l ws k f ≡ release turns (reckoned l w ∷ l) (without markId (w .id) ws) (suc k) f
     release-some turns l ws k f w e e′ = rw (e, release) (rw e′)
 
     execute-none : (turns : ℕ) (l ws : List MadeMark) → lowest madeId (pastListed l) ws ≡ none → executeReady (suc turns) l ws ≡ record { listed = l; waiting = ws }
@@ -115,24 +125,37 @@ module _ (past : MarkId → List MarkId) where
     execute-some turns l ws w e = rw (e, executeReady)
 
     -- one more is executed
-    ok-add : (l ws : List Mark) → Standing past l → All K l → (w : Mark) → Unlisted l w → T (ready l w)
-        → All (λ v. Unlisted l v × T (not (same (w .id) (v .id)))) ws → Consistent (w ∷ l) ws
-    ok-add l ws h ks w lw t a = record {
-      hist = (ready-stands past l h w (lw .good) (lw .fresh) (rw (ready-past past l h w (lw .good)) at t), h);
-      ks = (lw .k, ks);
+    ok-add : Closed → (l ws : List Mark) → Standing past l → All K l → (w : Mark) → Unlisted l w → T (ready l w)
+        → All (λ v. Unlisted l v × T (not (same (w .id) (v .id)))) ws → Consistent (reckoned l w ∷ l) ws
+    ok-add c l ws h ks w lw t a = subst (λ (v : Mark). Consistent (v ∷ l) ws) (sym as-true) (record {
+      hist = (stands-with past w (Said (length (past (w .id)))) l stands, h);
+      ks = (c .whole w (lw .k), ks);
       lacks = all-map (λ m p. record { good = p .0 .good; k = p .0 .k; fresh = other m p }) ws a;
-    }
+    })
       where
+        stands : Stands past w l
+        stands = ready-stands past l h w (lw .good) (lw .fresh) (rw (ready-past past l h w (lw .good)) at t)
+
+        as-true : reckoned l w ≡ truth w
+        as-true = ap (λ (n : ℕ). withPast w (Said n)) (reckoned-past past l h w stands (c .told w (lw .k) .once))
+
         other : (m : Mark) → Unlisted l m × T (not (same (w .id) (m .id))) → T (not (has (m .id) (w .id ∷ ids l)))
         other m p = not-T (has (m .id) (w .id ∷ ids l)) (λ u. elim (or-cases (same (m .id) (w .id)) (has (m .id) (ids l)) u) [
           | inl e ↦ T-not (same (w .id) (m .id)) (p .1) (rw (same→eq (m .id) (w .id) e) (same-refl (w .id)))
           | inr n ↦ T-not (has (m .id) (ids l)) (p .0 .fresh) n
         ])
 
-    pub release-ok : (turns : ℕ) (l ws : List Mark) (k f : ℕ) → Consistent l ws → Released turns l ws k f (release turns l ws k f)
+    -- a mark that is ready and says the truth has no false stamp
+    no-false : Closed → (l : List Mark) → Standing past l → (w : Mark) → Unlisted l w → T (ready l w) → falseStamp l w ≡ false
+    no-false c l h w lw t =
+        let b = rw (ready-past past l h w (lw .good)) at t in
+        let k = c .told w (lw .k) in
+        not-false-stamp past l h w (ready-stands past l h w (lw .good) (lw .fresh) b) (k .once) (k .honest) b
+
+    pub release-ok : Closed → (turns : ℕ) (l ws : List Mark) (k f : ℕ) → Consistent l ws → Released turns l ws k f (release turns l ws k f)
     unfolding madeOf
-    release-ok zero l ws k f o = record { sim = refl; growth = refl; none-false = refl; ok = o; grows = λ e. omega arith }
-    release-ok (suc turns) l ws k f o = go (lowest markId (ready l) ws) refl (release-ok turns)
+    release-ok c zero l ws k f o = record { sim = refl; growth = refl; none-false = refl; ok = o; grows = λ e. omega arith }
+    release-ok c (suc turns) l ws k f o = go (lowest markId (ready l) ws) refl (release-ok c turns)
       where
         same-pick : lowest madeId (pastListed (map madeOf l)) (map madeOf ws) ≡ Option·map madeOf (lowest markId (ready l) ws)
         same-pick = lowest-map (ready l) (pastListed (map madeOf l)) ws (all-map (λ w x. listed-ready l (o .hist) w (x .good)) ws (o .lacks))
@@ -144,8 +167,8 @@ module _ (past : MarkId → List MarkId) where
             (record { sim = execute-none turns (map madeOf l) (map madeOf ws) (same-pick ∙ ap (Option·map madeOf) e); growth = refl; none-false = refl; ok = o; grows = λ e. omega arith })
         go (some w) e ih =
             let pk : Unlisted l w × T (ready l w) = subst (Picked (Unlisted l) (ready l)) e (lowest-picked (Unlisted l) (ready l) ws (o .lacks)) in
-            let nf : falseStamp l w ≡ false = not-false-stamp past l (o .hist) w (pk .0 .good) (rw (ready-past past l (o .hist) w (pk .0 .good)) at (pk .1)) in
-            let r : Released turns (w ∷ l) (without markId (w .id) ws) (suc k) f (release turns (w ∷ l) (without markId (w .id) ws) (suc k) f) = ih (w ∷ l) (without markId (w .id) ws) (suc k) f (ok-add l (without markId (w .id) ws) (o .hist) (o .ks) w (pk .0) (pk .1) (without-all (Unlisted l) (w .id) ws (o .lacks))) in
+            let nf : falseStamp l w ≡ false = no-false c l (o .hist) w (pk .0) (pk .1) in
+            let r : Released turns (reckoned l w ∷ l) (without markId (w .id) ws) (suc k) f (release turns (reckoned l w ∷ l) (without markId (w .id) ws) (suc k) f) = ih (reckoned l w ∷ l) (without markId (w .id) ws) (suc k) f (ok-add c l (without markId (w .id) ws) (o .hist) (o .ks) w (pk .0) (pk .1) (without-all (Unlisted l) (w .id) ws (o .lacks))) in
             subst (Released (suc turns) l ws k f) (sym (release-some turns l ws k f w e nf))
             (record {
               sim = execute-some turns (map madeOf l) (map madeOf ws) (madeOf w) (same-pick ∙ ap (Option·map madeOf) e) ∙ ap (λ (x : List MadeMark). executeReady turns (madeOf w ∷ map madeOf l) x) (without-map (w .id) ws) ∙ r .sim;
@@ -175,11 +198,11 @@ module _ (past : MarkId → List MarkId) where
     known-has d m = ap (λ (l : List MadeMark). has (m .id) (madeIds l)) (sym (map-append (d .executed) (d .waiting))) ∙ ap (has (m .id)) (made-ids (d .executed ++ d .waiting)) ∙ find-has (m .id) (d .executed ++ d .waiting)
 
     -- A mark that is neither executed nor waiting.
-    arrive-ok : (d : State) (m : Mark) → Consistent (d .executed) (d .waiting) → Good past m → K m → T (not (has (m .id) (ids (d .executed ++ d .waiting))))
+    arrive-ok : Closed → (d : State) (m : Mark) → Consistent (d .executed) (d .waiting) → Good past m → K m → T (not (has (m .id) (ids (d .executed ++ d .waiting))))
         → has ((madeOf m) .id) (madeIds ((listsOf d) .listed ++ (listsOf d) .waiting)) ≡ false
         → Matches d (handOver (listsOf d) (madeOf m)) (arrive d m)
-    unfolding handOver arrive executing leaveOut refuse
-    arrive-ok d m o g km n unknown = go (full d) (ready (d .executed) m) (eqb (length (d .waiting)) waitingPlaces) refl refl refl
+    unfolding handOver arrive executing leaveOut refuse madeOf
+    arrive-ok c d m o g km n unknown = go (full d) (ready (d .executed) m) (eqb (length (d .waiting)) waitingPlaces) refl refl refl
       where
         n′ : T (not (has (m .id) (ids (d .executed)) || has (m .id) (ids (d .waiting))))
         n′ = rw (ids-append (d .executed) (d .waiting), has-append (m .id) (ids (d .executed)) (ids (d .waiting))) at n
@@ -190,24 +213,24 @@ module _ (past : MarkId → List MarkId) where
         lr : pastListed (map madeOf (d .executed)) (madeOf m) ≡ ready (d .executed) m
         lr = listed-ready (d .executed) (o .hist) m g
 
-        exec : T (ready (d .executed) m) → Released (length (d .waiting)) (m ∷ d .executed) (d .waiting) 1 0 (release (length (d .waiting)) (m ∷ d .executed) (d .waiting) 1 0)
-        exec t = release-ok (length (d .waiting)) (m ∷ d .executed) (d .waiting) 1 0
-            (ok-add (d .executed) (d .waiting) (o .hist) (o .ks) m lm t
+        exec : T (ready (d .executed) m) → Released (length (d .waiting)) (reckoned (d .executed) m ∷ d .executed) (d .waiting) 1 0 (release (length (d .waiting)) (reckoned (d .executed) m ∷ d .executed) (d .waiting) 1 0)
+        exec t = release-ok c (length (d .waiting)) (reckoned (d .executed) m ∷ d .executed) (d .waiting) 1 0
+            (ok-add c (d .executed) (d .waiting) (o .hist) (o .ks) m lm t
             (absent-all (Unlisted (d .executed)) (m .id) (d .waiting) (nor-snd (has (m .id) (ids (d .executed))) (has (m .id) (ids (d .waiting))) n′) (o .lacks)))
 
         nf : T (ready (d .executed) m) → falseStamp (d .executed) m ≡ false
-        nf t = not-false-stamp past (d .executed) (o .hist) m g (rw (ready-past past (d .executed) (o .hist) m g) at t)
+        nf t = no-false c (d .executed) (o .hist) m lm t
 
         after : DeskLists
         after = executeReady (length (d .waiting)) (madeOf m ∷ map madeOf (d .executed)) (map madeOf (d .waiting))
 
-        same-outcome : {r : Release} → Released (length (d .waiting)) (m ∷ d .executed) (d .waiting) 1 0 r
+        same-outcome : {r : Release} → Released (length (d .waiting)) (reckoned (d .executed) m ∷ d .executed) (d .waiting) 1 0 r
             → _≡_ {A = Outcome Reception} (record { lists = after; answer = gives (Executed (length (after .listed) - length (map madeOf (d .executed))) 0) })
             (record { lists = record { listed = map madeOf (r .executed); waiting = map madeOf (r .waiting) }; answer = gives (Executed (r .k) (r .f)) })
-        same-outcome {r} c =
-            let s = c .sim in
-            let z = sym (c .none-false) in
-            let g = c .growth in
+        same-outcome {r} x =
+            let s = x .sim in
+            let z = sym (x .none-false) in
+            let g = x .growth in
             let n : length (after .listed) - length (map madeOf (d .executed)) ≡ r .k = rw (s, length-map (d .executed) madeOf, length-map (r .executed) madeOf) (omega arith) in
             λ i. record { lists = s i; answer = gives (Executed (n i) (z i)) }
 
@@ -223,10 +246,10 @@ module _ (past : MarkId → List MarkId) where
             (record { sim = same-outcome x; own = refl; ok = x .ok; grows = λ e. let p = tally-le e (m .id) (ids (d .executed)) in let q = x .grows e in omega arith })))))))
 
     -- Receive of a made mark's frame is its hand-over.
-    pub receive-ok : (N : ℕ) → ((m k : Mark) → K m → K k → m .id ≡ k .id → m ≡ k) → (d : State) (m : Mark) → Consistent (d .executed) (d .waiting) → Good past m → K m
-        → (unmade d (m .id) || any (unmade d) (m .stamp)) ≡ false → Matches d (handOver (listsOf d) (madeOf m)) (receiveMark N d m (frameOfMark N m))
+    pub receive-ok : Closed → ((m k : Mark) → K m → K k → m .id ≡ k .id → sameFields m k ≡ true) → (d : State) (m : Mark) → Consistent (d .executed) (d .waiting) → Good past m → K m
+        → (unmade d (m .id) || any (unmade d) (m .stamp)) ≡ false → Matches d (handOver (listsOf d) (madeOf m)) (receiveMark d m)
     unfolding handOver receiveMark refuse
-    receive-ok N one d m o g km made = rw (made, receiveMark) (go (find markId (m .id) (d .executed ++ d .waiting)) refl)
+    receive-ok c one d m o g km made = rw (made, receiveMark) (go (find markId (m .id) (d .executed ++ d .waiting)) refl)
       where
         ks : All K (d .executed ++ d .waiting)
         ks = all-append K (d .executed) (d .waiting) (o .ks) (all-map (λ w l. l .k) (d .waiting) (o .lacks))
@@ -237,15 +260,14 @@ module _ (past : MarkId → List MarkId) where
         go : (p : Option Mark) → find markId (m .id) (d .executed ++ d .waiting) ≡ p
             → Matches d (handOver (listsOf d) (madeOf m)) (elim (find markId (m .id) (d .executed ++ d .waiting)) [
               | none ↦ arrive d m
-              | some h ↦ elim (sameBytes (frameOfMark N h) (frameOfMark N m)) [ true ↦ record { state = d; answer = gives Known } | false ↦ refuse d 8 ]
+              | some h ↦ elim (sameFields h m) [ true ↦ record { state = d; answer = gives Known } | false ↦ refuse d 8 ]
             ])
-        go none e = rw e (arrive-ok d m o g km
+        go none e = rw e (arrive-ok c d m o g km
             (rw (find-has (m .id) (d .executed ++ d .waiting) ∙ ap isSome e) tt)
             (known-has d m ∙ ap isSome e))
         go (some h) e =
             let k = subst (Picked K (λ w. same (m .id) (w .id))) e pick in
-            let eq : h ≡ m = one h m (k .0) km (sym (same→eq (m .id) (h .id) (k .1))) in
-            let sm : sameBytes (frameOfMark N h) (frameOfMark N m) ≡ true = rw eq (same-bytes-refl (frameOfMark N m)) in
+            let sm : sameFields h m ≡ true = one h m (k .0) km (sym (same→eq (m .id) (h .id) (k .1))) in
             rw e (rw sm (rw (known-has d m ∙ ap isSome e, handOver) (unchanged d (gives Known) o)))
 
     -- how many heads
@@ -281,12 +303,12 @@ module _ (past : MarkId → List MarkId) where
     -- The frame of a new mark has the size that the plain machine says.
     size-ok : (d : State) (box : MarkBox) → Standing past (d .executed) → frameSize (listsOf d) ≡ markSize 0 (newMark d box)
     unfolding frameSize heads newMark
-    size-ok d box h = ap (λ (n : ℕ). 23 + 3 * n) (length-keep (isHead (d .executed)) (isLast (map madeOf (d .executed))) (d .executed) (head-last (d .executed) h) ∙ sym (length-rising (keep (isHead (d .executed)) (ids (d .executed)))))
+    size-ok d box h = ap (λ (n : ℕ). 25 + 3 * n) (length-keep (isHead (d .executed)) (isLast (map madeOf (d .executed))) (d .executed) (head-last (d .executed) h) ∙ sym (length-rising (keep (isHead (d .executed)) (ids (d .executed)))))
 
     pub data MarkCase (N : ℕ) (d : State) (box : MarkBox) (out : List ℕ) : Type 0 where
       declined : (c : ℕ) → mark N d box out ≡ record { state = d; answer = refused c; bytes = out }
           → making (d .own) (listsOf d) box (length out) ≡ record { lists = listsOf d; answer = refused c } → MarkCase N d box out
-      granted : (n : Numbered) → mark N d box out ≡ record { state = execute (newMark d box) d; answer = gives n; bytes = overIf (gives n) (frameOfMark N (newMark d box)) out }
+      granted : (n : Numbered) → mark N d box out ≡ record { state = execute (newMark d box) d; answer = gives n; bytes = overIf (gives n) (frameOfMark (newMark d box)) out }
           → making (d .own) (listsOf d) box (length out) ≡ record { lists = record { listed = newMade (d .own) (listsOf d) box ∷ map madeOf (d .executed); waiting = map madeOf (d .waiting) }; answer = gives n }
           → Fit N (newMark d box) → n ≡ record { number = newMark d box .id .number; size = markSize N (newMark d box) } → MarkCase N d box out
 
@@ -305,8 +327,8 @@ module _ (past : MarkId → List MarkId) where
         tn = ap (tally (d .own)) (made-ids (d .executed))
 
         mark-is : (a : Answer Numbered) → markAnswer N d box (length out) ≡ a
-            → mark N d box out ≡ record { state = stateIf a (execute (newMark d box) d) d; answer = a; bytes = overIf a (frameOfMark N (newMark d box)) out }
-        mark-is a e = λ i. record { state = stateIf (e i) (execute (newMark d box) d) d; answer = e i; bytes = overIf (e i) (frameOfMark N (newMark d box)) out }
+            → mark N d box out ≡ record { state = stateIf a (execute (newMark d box) d) d; answer = a; bytes = overIf a (frameOfMark (newMark d box)) out }
+        mark-is a e = λ i. record { state = stateIf (e i) (execute (newMark d box) d) d; answer = e i; bytes = overIf (e i) (frameOfMark (newMark d box)) out }
 
         go : (a b c : Bool) → boxRule box ≡ a → full d ≡ b → ltb (length out) (markSize N (newMark d box)) ≡ c → MarkCase N d box out
         go false b c ea eb ec = declined 5 (mark-is (refused 5) (rw ea)) (rw (ea, making))

@@ -7,35 +7,51 @@ use mathlib.Core.Bool.{Bool, false, not, true}
 use mathlib.Core.List.{List, [], _∷_, map}
 use mathlib.Core.Option.{Option, Option·map, none, some}
 use mathlib.Core.Path.{_∙_, _≡_, ap, refl, subst, sym}
+use Rattle.frame.specs.declared.Past.the-variants.{Unsaid}
 use Rattle.frame.specs.Answer.{Answer, gives, refused}
 use Rattle.frame.specs.Mark.{MarkId, isDesk}
-use Rattle.causality.specs.Calls.{frameOfMark, mark, newMark, receive}
+use Rattle.causality.specs.Calls.{frameOfMark, mark, newMark, receive, receiveMark, toFirstBytes, toFirstMark, toFirstSize, toSecondBytes, toSecondMark, toSecondSize}
 use Rattle.causality.specs.Marks.{All, find, has, same, tally}
-use Rattle.causality.specs.State.{Mark, State, ids, markId}
+use Rattle.causality.specs.State.{Mark, State, ids, markId, withPast}
+use Rattle.causality.proofs.Conversions.{first-front, first-read, second-front, second-gives, second-read}
 use Rattle.causality.proofs.Fit.{Fit, fit-back, fit-frame-length, fit-read, markSize}
 use Rattle.causality.proofs.Kept.{kept}
 use Rattle.causality.proofs.Lists.{Picked, all-ids, all-map, find-all, has-self, keys}
 use Rattle.causality.proofs.Logic.{T→eq, nT→eq, or-inr, same-refl, same→eq}
 use Rattle.history.specs.Plain.{History, MadeMark, Unmade, handOver, handOverAt, listsAt, madeId, madeIds, making, newMade, ofMark, ofReceive, pastOf, plain, plainStep, recorded}
-use Rattle.history.specs.Run.{Run, Step, Written, deskOf, fed, handing, marking, run, runStep, withoutMissing, written, writtenId}
+use Rattle.history.specs.Run.{Run, Step, Written, atDesk, converted, fed, frameAt, handing, marking, run, runStep, toFirst, toSecond, withoutMissing, written, writtenId}
 use Rattle.history.proofs.Calls.{MarkCase, declined, granted, made-ids, mark-cases}
-use Rattle.history.proofs.MarkRun.{MarkRun, markStateAt, markStep, receiveFrame, runMarks}
-use Rattle.history.proofs.Simulation.{Inv, Registered, Within, differs, handing-ok, marking-ok, new-id, newAt, start}
+use Rattle.history.proofs.MarkRun.{MarkRun, convert, frame-map, heldAt, markStateAt, markStep, picked, runMarks}
+use Rattle.history.proofs.Simulation.{Inv, Recorded, Registered, Within, differs, first-ok, handing-ok, held-id, marking-ok, new-id, newAt, second-ok, start}
 
 abbrev pub AtDesks : ℕ → List Step → Type 0
-AtDesks N s = All (λ t. T (isDesk N (deskOf t))) s
+AtDesks N s = All (λ t. T (atDesk N t)) s
 
 recorded-all : {A B : Type 0} (P : B → Type 0) (a : Answer A) (x : B) (xs : List B) → All P (recorded a x xs) → All P xs
 recorded-all P (gives n) x xs p = p .1
 recorded-all P (refused c) x xs p = p
 
-hand-made : (N : ℕ) (w : MarkRun) (d : ℕ) (i : MarkId) → (markStep N w (handing d i)) .made ≡ w .made
-hand-made N w d i = go (find markId i (w .made))
+hand-made : (N : ℕ) (w : MarkRun) (d : ℕ) (i : MarkId) (k : ℕ) → (markStep N w (handing d i k)) .made ≡ w .made
+hand-made N w d i k = go (frameAt markId i k (w .frames))
   where
     go : (o : Option Mark) → (elim o as (λ x. MarkRun) [
-      | none ↦ record { states = w .states; made = w .made; answers = Unmade ∷ w .answers }
-      | some m ↦ record { states = (d, (receiveFrame N (markStateAt N w d) m) .state) ∷ w .states; made = w .made; answers = ofReceive (withoutMissing ((receiveFrame N (markStateAt N w d) m) .answer)) ∷ w .answers }
+      | none ↦ record { states = w .states; made = w .made; frames = w .frames; answers = Unmade ∷ w .answers; conversions = w .conversions }
+      | some m ↦ record { states = (d, (receiveMark (markStateAt N w d) m) .state) ∷ w .states; made = w .made; frames = w .frames; answers = ofReceive (withoutMissing ((receiveMark (markStateAt N w d) m) .answer)) ∷ w .answers; conversions = w .conversions }
     ]) .made ≡ w .made
+    go none = refl
+    go (some m) = refl
+
+second-made : (N : ℕ) (w : MarkRun) (d : ℕ) (i : MarkId) (k : ℕ) (lent : List ℕ) → (markStep N w (toSecond d i k lent)) .made ≡ w .made
+second-made N w d i k lent = go (frameAt markId i k (w .frames))
+  where
+    go : (o : Option Mark) → (elim o as (λ x. MarkRun) [ none ↦ w | some f ↦ convert N w (toSecondMark N (markStateAt N w d) f (length lent)) (heldAt N (markStateAt N w d) f) ]) .made ≡ w .made
+    go none = refl
+    go (some m) = refl
+
+first-made : (N : ℕ) (w : MarkRun) (i : MarkId) (k : ℕ) (lent : List ℕ) → (markStep N w (toFirst i k lent)) .made ≡ w .made
+first-made N w i k lent = go (frameAt markId i k (w .frames))
+  where
+    go : (o : Option Mark) → (elim o as (λ x. MarkRun) [ none ↦ w | some f ↦ convert N w (toFirstMark N f (length lent)) (withPast f Unsaid) ]) .made ≡ w .made
     go none = refl
     go (some m) = refl
 
@@ -50,7 +66,7 @@ hand-hist h d i = go (find madeId i (h .made))
     go (some m) = refl
 
 abbrev pub plainOf : List Step → History
-plainOf s = plain (map fed s)
+plainOf s = plain (fed s)
 
 -- The simulation, for a past and a register that fit the end of the sequence.
 simulation : (N : ℕ) (some-desk : 1 ≤ N) (past : MarkId → List MarkId) (register : MarkId → Option Mark) (s : List Step) → AtDesks N s
@@ -62,8 +78,12 @@ simulation N sd past register (marking d b lent ∷ s) at hp hr = marking-ok N s
     (recorded-all (λ y. past (y .id) ≡ y .past) ((making d (listsAt (plainOf s) d) b (length lent)) .answer) (newMade d (listsAt (plainOf s) d) b) ((plainOf s) .made) hp)
     (recorded-all (λ m. register (m .id) ≡ some m) ((mark N (markStateAt N (runMarks N s) d) b lent) .answer) (newMark (markStateAt N (runMarks N s) d) b) ((runMarks N s) .made) hr))
     d (T→eq (isDesk N d) (at .0)) b lent hp hr
-simulation N sd past register (handing d i ∷ s) at hp hr = handing-ok N sd past register (runMarks N s) (plainOf s)
-    (simulation N sd past register s (at .1) (rw (hand-hist (plainOf s) d i) at hp) (rw (hand-made N (runMarks N s) d i) at hr)) d (T→eq (isDesk N d) (at .0)) i
+simulation N sd past register (handing d i k ∷ s) at hp hr = handing-ok N sd past register (runMarks N s) (plainOf s)
+    (simulation N sd past register s (at .1) (rw (hand-hist (plainOf s) d i) at hp) (rw (hand-made N (runMarks N s) d i k) at hr)) d (T→eq (isDesk N d) (at .0)) i k
+simulation N sd past register (toSecond d i k lent ∷ s) at hp hr = second-ok N sd past register (runMarks N s) (plainOf s)
+    (simulation N sd past register s (at .1) hp (rw (second-made N (runMarks N s) d i k lent) at hr)) d (T→eq (isDesk N d) (at .0)) i k lent
+simulation N sd past register (toFirst i k lent ∷ s) at hp hr = first-ok N sd past register (runMarks N s) (plainOf s)
+    (simulation N sd past register s (at .1) hp (rw (first-made N (runMarks N s) i k lent) at hr)) i k lent
 
 -- NO TWO MARKS OF ONE NAME
 
@@ -130,10 +150,12 @@ module _ (N : ℕ) (some-desk : 1 ≤ N) where
   unique : (s : List Step) → AtDesks N s → Unique s
   unfolding newAt
   unique [] at = record { mades = tt; marks = tt }
-  unique (handing d i ∷ s) at = let u = unique s (at .1) in record {
+  unique (handing d i k ∷ s) at = let u = unique s (at .1) in record {
     mades = rw (hand-hist (plainOf s) d i) (u .mades);
-    marks = rw (hand-made N (runMarks N s) d i) (u .marks);
+    marks = rw (hand-made N (runMarks N s) d i k) (u .marks);
   }
+  unique (toSecond d i k lent ∷ s) at = let u = unique s (at .1) in record { mades = u .mades; marks = rw (second-made N (runMarks N s) d i k lent) (u .marks) }
+  unique (toFirst i k lent ∷ s) at = let u = unique s (at .1) in record { mades = u .mades; marks = rw (first-made N (runMarks N s) i k lent) (u .marks) }
   unique (marking d b lent ∷ s) at = go (unique s (at .1))
     where
       go : Unique s → Unique (marking d b lent ∷ s)
@@ -170,30 +192,24 @@ module _ (N : ℕ) (some-desk : 1 ≤ N) where
   -- BYTES
 
   abbrev pub framed : Mark → Written
-  framed m = record { id = m .id; bytes = frameOfMark N m }
+  framed m = record { id = m .id; bytes = frameOfMark m }
 
   abbrev pub onFrames : MarkRun → Run
-  onFrames w = record { states = w .states; frames = map framed (w .made); answers = w .answers }
+  onFrames w = record { states = w .states; frames = map framed (w .frames); answers = w .answers; conversions = w .conversions }
 
-  find-framed : (i : MarkId) (ms : List Mark) → find writtenId i (map framed ms) ≡ Option·map framed (find markId i ms)
-  find-framed i [] = refl
-  find-framed i (m ∷ ms) = go (same i (m .id)) (find-framed i ms)
-    where
-      go : (b : Bool) → find writtenId i (map framed ms) ≡ Option·map framed (find markId i ms)
-          → elim b [ true ↦ some (framed m) | false ↦ find writtenId i (map framed ms) ] ≡ Option·map framed (elim b [ true ↦ some m | false ↦ find markId i ms ])
-      go true ih = refl
-      go false ih = ih
+  frame-framed : (i : MarkId) (k : ℕ) (ms : List Mark) → frameAt writtenId i k (map framed ms) ≡ Option·map framed (frameAt markId i k ms)
+  frame-framed = frame-map framed writtenId (λ m. refl)
 
   -- Receive of a fit mark's frame.
-  receive-frame : (st : State) (m : Mark) → Fit N m → receive N st (frameOfMark N m) ≡ receiveFrame N st m
+  receive-frame : (st : State) (m : Mark) → Fit N m → receive N st (frameOfMark m) ≡ receiveMark st m
   unfolding receive
   receive-frame st m f = rw (fit-read N m f, fit-back N m f)
 
-  one-step : (s : List Step) → AtDesks N s → (t : Step) → T (isDesk N (deskOf t)) → runStep N (onFrames (runMarks N s)) t ≡ onFrames (markStep N (runMarks N s) t)
+  one-step : (s : List Step) → AtDesks N s → (t : Step) → T (atDesk N t) → runStep N (onFrames (runMarks N s)) t ≡ onFrames (markStep N (runMarks N s) t)
   unfolding newMark
   one-step s at (marking d b lent) td =
       let e = go (mark-cases (pastAt s) (Registered N some-desk (pastAt s) (registerAt s) w) N some-desk x b lent (inv .ok d .hist) (inv .kept d)) in
-      λ i. record { states = (d, (mark N x b lent) .state) ∷ w .states; frames = e i; answers = ofMark ((mark N x b lent) .answer) ∷ w .answers }
+      λ i. record { states = (d, (mark N x b lent) .state) ∷ w .states; frames = e i; answers = ofMark ((mark N x b lent) .answer) ∷ w .answers; conversions = w .conversions }
     where
       w : MarkRun
       w = runMarks N s
@@ -205,22 +221,69 @@ module _ (N : ℕ) (some-desk : 1 ≤ N) where
       x = markStateAt N w d
 
       go : MarkCase (pastAt s) (Registered N some-desk (pastAt s) (registerAt s) w) N x b lent
-          → written d ((mark N x b lent) .answer) ((mark N x b lent) .bytes) (map framed (w .made)) ≡ map framed (recorded ((mark N x b lent) .answer) (newMark x b) (w .made))
+          → written d ((mark N x b lent) .answer) ((mark N x b lent) .bytes) (map framed (w .frames)) ≡ map framed (recorded ((mark N x b lent) .answer) (newMark x b) (w .frames))
       go (declined c e₁ e₂) = rw e₁
       go (granted n e₁ e₂ fit en) =
           let own = inv .own d (T→eq (isDesk N d) td) in
-          let front = take-at (frameOfMark N (newMark x b)) (drop (length (frameOfMark N (newMark x b))) lent) (markSize N (newMark x b)) (fit-frame-length N (newMark x b)) in
-          rw (e₁, en) (λ i. record { id = record { desk = sym own i; number = suc (tally (x .own) (ids (x .executed))) }; bytes = front i } ∷ map framed (w .made))
-  one-step s at (handing d i) td = go (find markId i (w .made)) refl
+          let front = take-at (frameOfMark (newMark x b)) (drop (length (frameOfMark (newMark x b))) lent) (markSize N (newMark x b)) (fit-frame-length N (newMark x b)) in
+          rw (e₁, en) (λ i. record { id = record { desk = sym own i; number = suc (tally (x .own) (ids (x .executed))) }; bytes = front i } ∷ map framed (w .frames))
+  one-step s at (handing d i k) td = go (frameAt markId i k (w .frames)) refl
     where
       w : MarkRun
       w = runMarks N s
 
-      go : (o : Option Mark) → find markId i (w .made) ≡ o → runStep N (onFrames w) (handing d i) ≡ onFrames (markStep N w (handing d i))
-      go none e = rw (find-framed i (w .made) ∙ ap (Option·map framed) e, runStep) (rw (e, markStep))
+      go : (o : Option Mark) → frameAt markId i k (w .frames) ≡ o → runStep N (onFrames w) (handing d i k) ≡ onFrames (markStep N w (handing d i k))
+      go none e = rw (frame-framed i k (w .frames) ∙ ap (Option·map framed) e, runStep) (rw (e, markStep))
       go (some m) e =
-          let f : Fit N m = (subst (Picked (Fit N) (λ v. same i (v .id))) e (find-all (Fit N) i (w .made) (all-map (λ m x. x .fit) (w .made) (inv-of s at .made)))) .0 in
-          rw (find-framed i (w .made) ∙ ap (Option·map framed) e, runStep) (rw (e, markStep) (rw (receive-frame (markStateAt N w d) m f)))
+          let f : Fit N m = picked _ markId i k (w .frames) (inv-of s at .frames) m e .0 .fit in
+          rw (frame-framed i k (w .frames) ∙ ap (Option·map framed) e, runStep) (rw (e, markStep) (rw (receive-frame (markStateAt N w d) m f)))
+  one-step s at (toSecond d i k lent) td = go (frameAt markId i k (w .frames)) refl
+    where
+      w : MarkRun
+      w = runMarks N s
+
+      st : State
+      st = markStateAt N w d
+
+      same-frames : (f : Mark) → Fit N f → (a : Answer ℕ) → toSecondMark N st f (length lent) ≡ a
+          → converted (f .id) a (toSecondBytes N st (frameOfMark f) lent) (map framed (w .frames)) ≡ map framed (recorded a (heldAt N st f) (w .frames))
+      same-frames f x (refused c) e = refl
+      same-frames f x (gives n) e =
+          let g = second-gives N st f (length lent) n e in
+          let b = second-front N st f x lent n e (g .held) (g .found) (g .size) in
+          let q = held-id N some-desk (pastAt s) (registerAt s) w (plainOf s) (inv-of s at) d (T→eq (isDesk N d) td) f (g .held) (g .found) in
+          rw (g .found, heldAt) (λ j. record { id = q j; bytes = b j } ∷ map framed (w .frames))
+
+      go : (o : Option Mark) → frameAt markId i k (w .frames) ≡ o → runStep N (onFrames w) (toSecond d i k lent) ≡ onFrames (markStep N w (toSecond d i k lent))
+      go none e = rw (frame-framed i k (w .frames) ∙ ap (Option·map framed) e, runStep) (rw (e, markStep))
+      go (some f) e =
+          let x : Fit N f = picked _ markId i k (w .frames) (inv-of s at .frames) f e .0 .fit in
+          let a = second-read N st f x (length lent) in
+          let b : converted (f .id) (toSecondSize N st (frameOfMark f) (length lent)) (toSecondBytes N st (frameOfMark f) lent) (map framed (w .frames))
+          ≡ map framed (recorded (toSecondMark N st f (length lent)) (heldAt N st f) (w .frames))
+          = ap (λ (a : Answer ℕ). converted (f .id) a (toSecondBytes N st (frameOfMark f) lent) (map framed (w .frames))) a ∙ same-frames f x (toSecondMark N st f (length lent)) refl in
+          rw (frame-framed i k (w .frames) ∙ ap (Option·map framed) e, runStep) (rw (e, markStep)
+          (λ j. record { states = w .states; frames = b j; answers = w .answers; conversions = a j ∷ w .conversions }))
+  one-step s at (toFirst i k lent) td = go (frameAt markId i k (w .frames)) refl
+    where
+      w : MarkRun
+      w = runMarks N s
+
+      same-frames : (f : Mark) → Fit N f → (a : Answer ℕ) → toFirstMark N f (length lent) ≡ a
+          → converted (f .id) a (toFirstBytes N (frameOfMark f) lent) (map framed (w .frames)) ≡ map framed (recorded a (withPast f Unsaid) (w .frames))
+      same-frames f x (refused c) e = refl
+      same-frames f x (gives n) e = let b = first-front N f x lent n e in λ j. record { id = f .id; bytes = b j } ∷ map framed (w .frames)
+
+      go : (o : Option Mark) → frameAt markId i k (w .frames) ≡ o → runStep N (onFrames w) (toFirst i k lent) ≡ onFrames (markStep N w (toFirst i k lent))
+      go none e = rw (frame-framed i k (w .frames) ∙ ap (Option·map framed) e, runStep) (rw (e, markStep))
+      go (some f) e =
+          let x : Fit N f = picked _ markId i k (w .frames) (inv-of s at .frames) f e .0 .fit in
+          let a = first-read N f x (length lent) in
+          let b : converted (f .id) (toFirstSize N (frameOfMark f) (length lent)) (toFirstBytes N (frameOfMark f) lent) (map framed (w .frames))
+          ≡ map framed (recorded (toFirstMark N f (length lent)) (withPast f Unsaid) (w .frames))
+          = ap (λ (a : Answer ℕ). converted (f .id) a (toFirstBytes N (frameOfMark f) lent) (map framed (w .frames))) a ∙ same-frames f x (toFirstMark N f (length lent)) refl in
+          rw (frame-framed i k (w .frames) ∙ ap (Option·map framed) e, runStep) (rw (e, markStep)
+          (λ j. record { states = w .states; frames = b j; answers = w .answers; conversions = a j ∷ w .conversions }))
 
   pub same-run : (s : List Step) → AtDesks N s → run N s ≡ onFrames (runMarks N s)
   same-run [] at = refl

@@ -3,3 +3,4 @@ pub mod MarkLaws
 pub mod Marking
 pub mod Receipt
 pub mod FrameAgain
+pub mod Converting

@@ -4,11 +4,15 @@ use lib.Dec.{T}
 use lib.ListN.{getD, length, take}
 use mathlib.Core.List.{List, _∷_}
 use mathlib.Core.Path.{_∙_, _≡_, ap, refl, subst, sym}
+use native.Mathlib.Numerals.{add-one}
 use native.Mathlib.Omega.{arith}
 use Rattle.frame.specs.declared.MarkBox.{MarkBox}
 use Rattle.rows.specs.declared.Held.{Held}
+use Rattle.frame.specs.declared.Fields.{Fields}
+use Rattle.frame.specs.declared.Past.{Past}
+use Rattle.frame.specs.declared.Past.the-variants.{Said}
 use Rattle.frame.specs.Answer.{Answer}
-use Rattle.frame.specs.Frame.{entryBytes, ours, overIf, writeBytes, writeSize}
+use Rattle.frame.specs.Frame.{entryBytes, overIf, writeBytes, writeSize}
 use Rattle.frame.specs.Mark.{MarkId, desks}
 use Rattle.causality.specs.Calls.{fieldsOfMark, frameOfMark, newMark, sizeOfMark}
 use Rattle.causality.specs.Marks.{has, places, tally}
@@ -20,10 +24,11 @@ use Rattle.causality.proofs.Past.{Standing, heads-has}
 use Rattle.causality.proofs.Reach.{Sound, local, local-hist, mark-sound}
 use Rattle.causality.proofs.RowLaws.{entriesOfRow}
 use Rattle.causality.proofs.Rows.{rowOf}
-use Rattle.rows.specs.View.{heldMark, rowFn, width}
+use Rattle.rows.specs.View.{heldMark, pastFrom, rowFn, width}
 use Rattle.executed.specs.Arrays.{Arrays, Takes}
 use Rattle.waiting.specs.declared.Waiting.{Waiting}
 use Rattle.verdict.specs.Kept.{KeptIn, stateIn}
+use Rattle.in_place.specs.Lent.{nextHeld}
 use Rattle.rows.proofs.ByRows.{row-at, row-entries}
 use Rattle.verdict.proofs.Invariant.{executed-length, kept-count, kept-fit, kept-own, kept-sound}
 
@@ -31,16 +36,18 @@ use Rattle.verdict.proofs.Invariant.{executed-length, kept-count, kept-fit, kep
 pub first-part : (bytes : List ℕ) (size : ℕ) → take (size - 0) bytes ≡ take size bytes
 first-part bytes size = let z : size - 0 ≡ size = omega arith in rw z refl
 
--- The frame of a mark: es are the bytes of its entries.
-module _ (h : Held) (es : List ℕ) (e : es ≡ entryBytes (entriesOfRow width (rowFn (h .row)))) where
-  pub held-size : (lent : ℕ) (a : Answer ℕ) → a ≡ writeSize ours (record { desk = h .desk; number = h .number; extent = h .extent }) es lent → a ≡ sizeOfMark desks (heldMark h) lent
-  unfolding sizeOfMark fieldsOfMark
-  held-size lent a f = f ∙ ap (λ (x : List ℕ). writeSize ours (record { desk = h .desk; number = h .number; extent = h .extent }) x lent) e
+-- The frame of a mark: p is its past, es are the bytes of its entries.
+module _ (h : Held) (p : Past) (g : p ≡ pastFrom (h .past)) (es : List ℕ) (e : es ≡ entryBytes (entriesOfRow width (rowFn (h .row)))) where
+  abbrev fields : Past → Fields
+  fields p = record { desk = h .desk; number = h .number; extent = h .extent; past = p }
 
-  pub held-bytes : (out after : List ℕ) → after ≡ writeBytes ours (record { desk = h .desk; number = h .number; extent = h .extent }) es out
-      → after ≡ overIf (sizeOfMark desks (heldMark h) (length out)) (frameOfMark desks (heldMark h)) out
+  pub held-size : (lent : ℕ) (a : Answer ℕ) → a ≡ writeSize desks (fields p) es lent → a ≡ sizeOfMark desks (heldMark h) lent
+  unfolding sizeOfMark fieldsOfMark
+  held-size lent a f = f ∙ (λ i. writeSize desks (fields (g i)) (e i) lent)
+
+  pub held-bytes : (out after : List ℕ) → after ≡ writeBytes desks (fields p) es out → after ≡ overIf (sizeOfMark desks (heldMark h) (length out)) (frameOfMark (heldMark h)) out
   unfolding sizeOfMark frameOfMark fieldsOfMark writeBytes
-  held-bytes out after f = f ∙ ap (λ (x : List ℕ). writeBytes ours (record { desk = h .desk; number = h .number; extent = h .extent }) x out) e
+  held-bytes out after f = f ∙ (λ i. writeBytes desks (fields (g i)) (e i) out)
 
 -- The next mark of a kept desk, by its kept rows.
 module _ (own : ℕ) (a : Arrays) (q : Waiting) (k : KeptIn own a q) where
@@ -71,12 +78,13 @@ module _ (own : ℕ) (a : Arrays) (q : Waiting) (k : KeptIn own a q) where
       omega arith
 
   pub next-mark : (b : MarkBox)
-      → heldMark (record { desk = own; number = record { 0 = getD (a .tally) (own - 1) 0 + 1 }; extent = b; row = a .heads }) ≡ newMark (stateIn own a q) b
+      → heldMark (nextHeld own (a .count) (a .tally) (a .heads) b) ≡ newMark (stateIn own a q) b
   unfolding newMark
   next-mark b =
       let e : getD (a .tally) (own - 1) 0 + 1 ≡ suc (tally own (ids ((stateIn own a q) .executed))) = let x = own-count (a .tally) (k .ordered .rows .tally) in omega arith in
       let s = heads-stamp (a .heads) (k .ordered .rows .heads) in
-      λ i. record { id = record { desk = own; number = e i }; extent = b; stamp = s i }
+      let p : pastFrom (a .count + 1) ≡ Said (length ((stateIn own a q) .executed)) = ap pastFrom (add-one (a .count)) ∙ ap Said (sym (executed-length own a q)) in
+      λ i. record { id = record { desk = own; number = e i }; extent = b; stamp = s i; past = p i }
 
   -- The next place may take it.
   pub mark-takes : (b : MarkBox) (h : Held) → heldMark h ≡ newMark (stateIn own a q) b → a .count < places → Takes h a

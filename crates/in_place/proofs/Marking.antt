@@ -36,9 +36,9 @@ module _ (st : State) (b : MarkBox) (out : List ℕ) where
   answer-by x y a ex ey ea = λ i. refuseIf (not (ex i)) 5 (refuseIf (ey i) 9 (numbered (newMark st b .id .number) (ea i)))
 
   mark-by : (a : Answer Numbered) → markAnswer desks st b (length out) ≡ a
-      → mark desks st b out ≡ record { state = stateIf a (execute (newMark st b) st) st; answer = a; bytes = overIf a (frameOfMark desks (newMark st b)) out }
+      → mark desks st b out ≡ record { state = stateIf a (execute (newMark st b) st) st; answer = a; bytes = overIf a (frameOfMark (newMark st b)) out }
   unfolding mark
-  mark-by a e = λ i. record { state = stateIf (e i) (execute (newMark st b) st) st; answer = e i; bytes = overIf (e i) (frameOfMark desks (newMark st b)) out }
+  mark-by a e = λ i. record { state = stateIf (e i) (execute (newMark st b) st) st; answer = e i; bytes = overIf (e i) (frameOfMark (newMark st b)) out }
 
 -- A desk is full by its counts.
 module _ (own : ℕ) (a : Arrays) (q : Waiting) (k : KeptIn own a q) where
@@ -63,7 +63,7 @@ module _ (own : ℕ) (a : Arrays) (q : Waiting) (k : KeptIn own a q) (b : MarkBo
   -- What came of the call is a desk that came from the calls.
   promised : (c : Arrays) (after : List ℕ) (r : Marking) (x : Answer Numbered) → markAnswer desks st b (length out) ≡ x
       → stateIn own c q ≡ stateIf x (execute (newMark st b) st) st → numbering r ≡ x
-      → after ≡ overIf x (frameOfMark desks (newMark st b)) out → Ordered c → MarkedIn own a c q b out after r
+      → after ≡ overIf x (frameOfMark (newMark st b)) out → Ordered c → MarkedIn own a c q b out after r
   promised c after r x e s n o u = record {
     state = state;
     answer = n ∙ ap (λ (m : Marked). m .answer) by;
@@ -71,7 +71,7 @@ module _ (own : ℕ) (a : Arrays) (q : Waiting) (k : KeptIn own a q) (b : MarkBo
     kept = record { from = subst (λ (y : State). FromCalls desks y) (sym state) (marked (k .from) b out); ordered = u; queued = k .queued };
   }
     where
-      by : record { state = stateIf x (execute (newMark st b) st) st; answer = x; bytes = overIf x (frameOfMark desks (newMark st b)) out } ≡ mark desks st b out
+      by : record { state = stateIf x (execute (newMark st b) st) st; answer = x; bytes = overIf x (frameOfMark (newMark st b)) out } ≡ mark desks st b out
       by = sym (mark-by st b out x e)
 
       state : stateIn own c q ≡ (mark desks st b out) .state
@@ -88,20 +88,20 @@ module _ (own : ℕ) (a : Arrays) (q : Waiting) (k : KeptIn own a q) (b : MarkBo
 
   -- What the writer found of the next mark.
   module _ (rule : boxRule b ≡ true) (room : full st ≡ false) (h : Held) (next : heldMark h ≡ newMark st b) (w : Answer ℕ) (after : List ℕ)
-      (size : w ≡ sizeOfMark desks (heldMark h) (length out)) (bytes : after ≡ overIf (sizeOfMark desks (heldMark h) (length out)) (frameOfMark desks (heldMark h)) out) where
+      (size : w ≡ sizeOfMark desks (heldMark h) (length out)) (bytes : after ≡ overIf (sizeOfMark desks (heldMark h) (length out)) (frameOfMark (heldMark h)) out) where
     answered : markAnswer desks st b (length out) ≡ numbered (newMark st b .id .number) w
     answered = answer-by st b out true false w rule room (ap (λ (m : Mark). sizeOfMark desks m (length out)) (sym next) ∙ sym size)
 
-    written : after ≡ overIf w (frameOfMark desks (newMark st b)) out
-    written = bytes ∙ (λ i. overIf (sym size i) (frameOfMark desks (next i)) out)
+    written : after ≡ overIf w (frameOfMark (newMark st b)) out
+    written = bytes ∙ (λ i. overIf (sym size i) (frameOfMark (next i)) out)
 
     pub write-refused : (c : Refusal) → w ≡ refused (numberOf c) → MarkedIn own a a q b out after (NotMarked c)
     write-refused c e = refusing c after (answered ∙ ap (numbered (newMark st b .id .number)) e)
-        (written ∙ ap (λ (x : Answer ℕ). overIf x (frameOfMark desks (newMark st b)) out) e)
+        (written ∙ ap (λ (x : Answer ℕ). overIf x (frameOfMark (newMark st b)) out) e)
 
     pub made : (n : ℕ) (c : Arrays) → w ≡ gives n → Took h a c → MarkedIn own a c q b out after (Made (h .number) n)
     made n c e x = promised c after (Made (h .number) n) (gives (record { number = newMark st b .id .number; size = n }))
         (answered ∙ ap (numbered (newMark st b .id .number)) e)
         ((λ i. record { own = own; executed = x .marks i; waiting = st .waiting }) ∙ ap (λ (m : Mark). execute m st) next)
         (ap (λ (m : Mark). gives (record { number = m .id .number; size = n })) next)
-        (written ∙ ap (λ (y : Answer ℕ). overIf y (frameOfMark desks (newMark st b)) out) e) (x .ordered)
+        (written ∙ ap (λ (y : Answer ℕ). overIf y (frameOfMark (newMark st b)) out) e) (x .ordered)

@@ -12,6 +12,7 @@ pub fn write_again<'a>(
     desks: &'a [u8; PLACES],
     numbers: &'a [u16; PLACES],
     boxes: &'a [u32; PLACES * BOX],
+    pasts: &'a [u16; PLACES],
     stamps: &'a [u16; PLACES * WIDTH],
     tally: &'a [u16; WIDTH],
     last: &'a [u16; WIDTH],
@@ -19,14 +20,14 @@ pub fn write_again<'a>(
     a: MarkId,
     out: &mut [u8],
 ) -> Writing
-    requires { ⌜ SomeDesk (againLent desks numbers boxes stamps tally last before) ⌝ }
+    requires { ⌜ SomeDesk (againLent desks numbers boxes pasts stamps tally last before) ⌝ }
     ensures { λ r. ⌜ EachState
-        (againLent (desks .entry) (numbers .entry) (boxes .entry) (stamps .entry) (tally .entry) (last .entry) (before .entry))
+        (againLent (desks .entry) (numbers .entry) (boxes .entry) (pasts .entry) (stamps .entry) (tally .entry) (last .entry) (before .entry))
         (λ st. AgainIn st a (now (out .entry)) (now (out .exit)) r) ⌝ }
 {
     let p = executed::find(tally, last, before, a);
     if PLACES <= p {
         return Writing::Refused(Refusal::NotExecuted);
     }
-    mark::write_mark(rows::mark_at(desks, numbers, boxes, stamps, p), out)
+    mark::write_mark(rows::mark_at(desks, numbers, boxes, pasts, stamps, p), out)
 }

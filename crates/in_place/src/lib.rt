@@ -1,4 +1,5 @@
-// Mark, Receive and Frame again over a desk's lent arrays, in place.
+// Mark, Receive, Frame again and the converter over a desk's lent arrays, in place.
+pub mod convert;
 pub mod frame_again;
 pub mod mark;
 pub mod receive;

@@ -1,6 +1,6 @@
 // Mark over a desk's lent arrays, in place: a box becomes the desk's next mark, and its frame is written out.
 ghost use mathlib.Core.Path.{_≡_};
-ghost use Prim.Native.Nat.{_+_, _-_, _≤_};
+ghost use Prim.Native.Nat.{_-_, _≤_};
 ghost use lib.ListN.{length, getD};
 ghost use Rattle.frame.specs.Frame.{writing, overIf};
 ghost use Rattle.frame.specs.Mark.{desks};
@@ -8,7 +8,7 @@ ghost use Rattle.causality.specs.Calls.{frameOfMark, sizeOfMark};
 ghost use Rattle.causality.specs.Marks.{places};
 ghost use Rattle.rows.specs.View.{width, heldMark};
 ghost use Rattle.executed.specs.Arrays.{here, found, left};
-ghost use Rattle.in_place.specs.Lent.{MarkLent, MarksIn};
+ghost use Rattle.in_place.specs.Lent.{MarkLent, MarksIn, nextHeld};
 use causality::Marked;
 use frame::Fields;
 use frame::MarkBox;
@@ -24,11 +24,12 @@ use rows::WIDTH;
 pub(crate) fn write_mark(h: Held, out: &mut [u8]) -> Writing
     ensures answer { λ r. ⌜ writing r ≡ sizeOfMark desks (heldMark h) (length (now (out .entry))) ⌝ }
     ensures bytes { λ _. ⌜ now (out .exit)
-        ≡ overIf (sizeOfMark desks (heldMark h) (length (now (out .entry)))) (frameOfMark desks (heldMark h)) (now (out .entry)) ⌝ }
+        ≡ overIf (sizeOfMark desks (heldMark h) (length (now (out .entry)))) (frameOfMark (heldMark h)) (now (out .entry)) ⌝ }
 {
     let row = h.row;
     let number = h.number;
     let extent = h.extent;
+    let past = rows::past_from(h.past);
     let e = rows::entries_of(row);
     let bytes = e.bytes;
     let size = e.size;
@@ -37,22 +38,30 @@ pub(crate) fn write_mark(h: Held, out: &mut [u8]) -> Writing
             desk: h.desk,
             number: number,
             extent: extent,
+            past: past,
         },
         &bytes[0..size],
         out,
     )
 }
 
-// The mark that a box becomes at desk `own`.
-fn next_mark(own: u8, tally: [u16; WIDTH], heads: [u16; WIDTH], extent: MarkBox) -> Held
-    requires { ⌜ (1 ≤ own) × (own ≤ width) × (getD tally (own - 1) 0 ≤ places) ⌝ }
-    ensures { λ r. ⌜ r ≡ record { desk = own; number = record { 0 = getD tally (own - 1) 0 + 1 }; extent = extent; row = heads } ⌝ }
+// The mark that a box becomes at desk `own`, where so many are executed: all of them precede it.
+fn next_mark(
+    own: u8,
+    count: usize,
+    tally: [u16; WIDTH],
+    heads: [u16; WIDTH],
+    extent: MarkBox,
+) -> Held
+    requires { ⌜ (1 ≤ own) × (own ≤ width) × (count ≤ places) × (getD tally (own - 1) 0 ≤ places) ⌝ }
+    ensures { λ r. ⌜ r ≡ nextHeld own count tally heads extent ⌝ }
 {
     let at = own as usize - 1;
     Held {
         desk: own,
         number: Number(tally[at] + 1),
         extent: extent,
+        past: (count + 1) as u16,
         row: heads,
     }
 }
@@ -64,6 +73,7 @@ pub fn marking(
     desks: &mut [u8; PLACES],
     numbers: &mut [u16; PLACES],
     boxes: &mut [u32; PLACES * BOX],
+    pasts: &mut [u16; PLACES],
     stamps: &mut [u16; PLACES * WIDTH],
     tally: &mut [u16; WIDTH],
     heads: &mut [u16; WIDTH],
@@ -73,9 +83,9 @@ pub fn marking(
     extent: MarkBox,
     out: &mut [u8],
 ) -> Marked
-    requires { ⌜ MarkLent own waiting (here count desks numbers boxes stamps tally heads last before) ⌝ }
-    ensures { λ r. ⌜ MarksIn own waiting (found count desks numbers boxes stamps tally heads last before)
-        (left count desks numbers boxes stamps tally heads last before) extent out r ⌝ }
+    requires { ⌜ MarkLent own waiting (here count desks numbers boxes pasts stamps tally heads last before) ⌝ }
+    ensures { λ r. ⌜ MarksIn own waiting (found count desks numbers boxes pasts stamps tally heads last before)
+        (left count desks numbers boxes pasts stamps tally heads last before) extent out r ⌝ }
 {
     let at = *count;
     if !frame::conditions::box_rule(extent) {
@@ -86,7 +96,7 @@ pub fn marking(
     }
     let t = *tally;
     let row = *heads;
-    let h = next_mark(own, t, row, extent);
+    let h = next_mark(own, at, t, row, extent);
     let size = match write_mark(h, out) {
         Writing::Refused(refusal) => {
             return Marked::Refused(refusal);
@@ -98,6 +108,7 @@ pub fn marking(
         desks,
         numbers,
         boxes,
+        pasts,
         stamps,
         tally,
         heads,

@@ -1,7 +1,10 @@
 -- The answers of the calls as the numbers that a host gets: the refusal's number, 0 where there is none, and the values.
 use Prim.Native.Nat.{ℕ}
 use Rattle.frame.specs.Answer.{numberOf}
+use Rattle.frame.specs.Frame.{editionOf}
 use Rattle.frame.specs.declared.MarkBox.{MarkBox}
+use Rattle.frame.specs.declared.Past.{Past}
+use Rattle.frame.specs.declared.Past.the-variants.{Unsaid, Said}
 use Rattle.rows.specs.View.{noBox}
 use Rattle.frame.specs.declared.Reading.{Reading}
 use Rattle.frame.specs.declared.Reading.the-variants.{Fields as IsRead, Refused as NotRead}
@@ -60,7 +63,15 @@ abbrev pub writtenNumbers : Writing → ℕ × ℕ
 writtenNumbers (Size n) = (0, n)
 writtenNumbers (NotWritten r) = (numberOf r, 0)
 
--- Refusal, desk, number, box.
-abbrev pub readNumbers : Reading → ℕ × ℕ × ℕ × MarkBox
-readNumbers (IsRead f) = (0, f .desk, f .number .0, f .extent)
-readNumbers (NotRead r) = (numberOf r, 0, 0, noBox)
+-- The edition that a past tells, and its count, 0 where none is said.
+abbrev pub editionNumber : Past → ℕ
+editionNumber p = editionOf p .version
+
+abbrev pub countNumber : Past → ℕ
+countNumber Unsaid = 0
+countNumber (Said n) = n
+
+-- Refusal, desk, number, box, edition, past count.
+abbrev pub readNumbers : Reading → ℕ × ℕ × ℕ × MarkBox × ℕ × ℕ
+readNumbers (IsRead f) = (0, f .desk, f .number .0, f .extent, editionNumber (f .past), countNumber (f .past))
+readNumbers (NotRead r) = (numberOf r, 0, 0, noBox, 0, 0)

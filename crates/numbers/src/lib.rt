@@ -1,7 +1,7 @@
 // The answers of the calls as numbers, for a host: each has the number of the refusal, 0 where there is none; the other numbers are 0 on a refusal.
 ghost use mathlib.Core.Path.{_≡_};
 ghost use Rattle.numbers.specs.Numbers.{createdNumber, markedNumbers, receivedNumbers, relatedNumbers};
-ghost use Rattle.numbers.specs.Numbers.{countedNumbers, lowestNumbers, writtenNumbers, readNumbers};
+ghost use Rattle.numbers.specs.Numbers.{countedNumbers, lowestNumbers, writtenNumbers, editionNumber, countNumber, readNumbers};
 use causality::Counted;
 use causality::Created;
 use causality::Lowest;
@@ -9,6 +9,7 @@ use causality::Marked;
 use causality::Received;
 use causality::Related;
 use frame::MarkBox;
+use frame::Past;
 use frame::Reading;
 use frame::Writing;
 
@@ -54,13 +55,15 @@ pub struct WriteAnswer {
     pub size: usize,
 }
 
-// The entries are that many bytes from offset 23 of the frame.
+// edition: 1 or 2. past: in edition 2 the past count. The entries are that many bytes from offset 23 of a frame of edition 1, from 25 of one of edition 2.
 #[repr(C)]
 pub struct ReadAnswer {
     pub refusal: u8,
     pub desk: u8,
     pub number: u16,
     pub extent: MarkBox,
+    pub edition: u8,
+    pub past: u16,
     pub entries: usize,
 }
 
@@ -196,19 +199,40 @@ pub fn written(answer: Writing) -> WriteAnswer
     }
 }
 
+fn edition(past: Past) -> u8
+    ensures { λ r. ⌜ r ≡ editionNumber past ⌝ }
+{
+    match past {
+        Past::Unsaid => 1,
+        Past::Said(_) => 2,
+    }
+}
+
+fn count(past: Past) -> u16
+    ensures { λ r. ⌜ r ≡ countNumber past ⌝ }
+{
+    match past {
+        Past::Unsaid => 0,
+        Past::Said(n) => n,
+    }
+}
+
 // What the reader gives, with the size of the entries.
 pub fn read(answer: Reading, entries: usize) -> ReadAnswer
-    ensures { λ r. ⌜ (readNumbers answer ≡ (r .refusal, r .desk, r .number, r .extent)) × (r .entries ≡ entries) ⌝ }
+    ensures { λ r. ⌜ (readNumbers answer ≡ (r .refusal, r .desk, r .number, r .extent, r .edition, r .past)) × (r .entries ≡ entries) ⌝ }
 {
     match answer {
         Reading::Fields(f) => {
             let number = f.number;
             let extent = f.extent;
+            let past = f.past;
             ReadAnswer {
                 refusal: 0,
                 desk: f.desk,
                 number: number.0,
                 extent: extent,
+                edition: edition(past),
+                past: count(past),
                 entries: entries,
             }
         }
@@ -222,6 +246,8 @@ pub fn read(answer: Reading, entries: usize) -> ReadAnswer
                 low: 0,
                 high: 0,
             },
+            edition: 0,
+            past: 0,
             entries: entries,
         },
     }

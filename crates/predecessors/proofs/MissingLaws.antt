@@ -10,6 +10,7 @@ use mathlib.Core.Path.{_∙_, _≡_, ap, refl, sym}
 use native.Mathlib.Numerals.{add-one, one-add, sub-one}
 use native.Mathlib.Omega.{arith}
 use Rattle.frame.specs.declared.MarkBox.{MarkBox}
+use Rattle.frame.specs.declared.Past.{Past}
 use Rattle.frame.specs.Mark.{MarkId}
 use Rattle.causality.specs.Marks.{has, keep, tally}
 use Rattle.causality.specs.State.{Mark, ids, lacksPrevious, missing, missingEntries, previous, ready}
@@ -109,9 +110,9 @@ module _ (n : ℕ) (l : List Mark) (c : Counted (ids l)) (t row : List ℕ) (f :
       go false p true q ih = let x = ltb-false 0 (getD row k 0) p in let y = ltb-true (getD t k 0) (getD row k 0) q in omega arith
       go false p false q ih = omega arith
 
-  module _ (i : MarkId) (b : MarkBox) (lo : 1 ≤ i .desk) (hi : i .desk ≤ n) where
+  module _ (i : MarkId) (b : MarkBox) (said : Past) (lo : 1 ≤ i .desk) (hi : i .desk ≤ n) where
     abbrev mark : Mark
-    mark = record { id = i; extent = b; stamp = entriesOfRow n (rowFn row) }
+    mark = record { id = i; extent = b; stamp = entriesOfRow n (rowFn row); past = said }
 
     lacks-by-tally : lacksPrevious l mark ≡ (ltb (rowFn t (i .desk)) (i .number - 1) && not (eqb (rowFn row (i .desk)) (i .number - 1)))
     unfolding lacksPrevious previous

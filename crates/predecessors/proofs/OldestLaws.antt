@@ -10,13 +10,12 @@ use mathlib.Core.Logic.{_⊎_, inl, inr, ⊎-elim}
 use mathlib.Core.Path.{_∙_, _≡_, ap, refl, subst, sym}
 use native.Mathlib.Nat.{eq-or-lt-of-le}
 use native.Mathlib.Omega.{arith}
-use Rattle.frame.specs.declared.MarkBox.{MarkBox}
 use Rattle.frame.specs.Mark.{MarkId}
 use Rattle.causality.specs.Marks.{has}
 use Rattle.causality.specs.State.{ids}
 use Rattle.causality.proofs.Logic.{nT→eq, split}
 use Rattle.causality.proofs.Reach.{Sound}
-use Rattle.rows.specs.View.{nameAt, view, width}
+use Rattle.rows.specs.View.{Carried, nameAt, view, width}
 use Rattle.predecessors.specs.Steps.{AllFrom, Oldest, StandsFrom, aboveIn}
 use Rattle.rows.proofs.Places.{not-before}
 
@@ -226,7 +225,7 @@ pub one-oldest : (ds ns row : List ℕ) (count r r′ : ℕ) → Oldest ds ns ro
 one-oldest ds ns row count r r′ o o′ = omega (arith, not-later ds ns row count r r′ o o′, not-later ds ns row count r′ r o′ o)
 
 -- No mark that a row names is among those before the place of the oldest, whatever their stamps.
-pub oldest-before : (ds ns row : List ℕ) (count r : ℕ) → Oldest ds ns row count r → (bs : ℕ → MarkBox) (ss : List ℕ) → Sound (view width count ds ns bs ss)
+pub oldest-before : (ds ns row : List ℕ) (count r : ℕ) → Oldest ds ns row count r → (bs : ℕ → Carried) (ss : List ℕ) → Sound (view width count ds ns bs ss)
     → (j : ℕ) → j < width → 0 < getD row j 0 → has (record { desk = suc j; number = getD row j 0 }) (ids (view width r ds ns bs ss)) ≡ false
 unfolding view
 oldest-before ds ns row count zero o bs ss s j h pos = refl

@@ -3,12 +3,12 @@ use mathlib.Core.Bool.{Bool, true, false, not, _&&_, _||_, cond}
 use mathlib.Core.Path.{_≡_}
 use mathlib.Core.List.{List}
 use Prim.Native.Nat.{ℕ, zero, suc, max, _+_, _-_, _*_, _≤_, _<_}
-use lib.Dec.{eqb, ltb}
+use lib.Dec.{eqb, leb, ltb}
 use lib.ListN.{length, getD, take}
 use Rattle.frame.specs.Mark.{MarkId}
-use Rattle.frame.specs.declared.MarkBox.{MarkBox}
+use Rattle.causality.specs.Marks.{tally}
 use Rattle.causality.proofs.RowLaws.{under}
-use Rattle.rows.specs.View.{width, rowFn, nameAt, view, someReached}
+use Rattle.rows.specs.View.{Carried, width, rowFn, nameAt, view, someReached, namesDown}
 
 -- A row joined with row p of the stamps: at each desk the greater count.
 pub record Joined (ss : List ℕ) (p : ℕ) (before after : List ℕ) : Type 0 where
@@ -18,8 +18,30 @@ pub record Joined (ss : List ℕ) (p : ℕ) (before after : List ℕ) : Type 0 w
 -- The pass of the trace from a place down to another, over the marks between them and no others, newest first. Their boxes do not matter.
 pub record Traced (ds ns ss entries : List ℕ) (at : ℕ) (before : List ℕ) (to : ℕ) (after : List ℕ) : Type 0 where
   pub long : length after ≡ width
-  pub counts : (bs : ℕ → MarkBox) (j : ℕ) → j < width
+  pub counts : (bs : ℕ → Carried) (j : ℕ) → j < width
       → getD after j 0 ≡ under (take (at - to) (view width at ds ns bs ss)) (rowFn entries) (rowFn before) (suc j)
+
+-- The tally of the marks before a place, as a row.
+abbrev pub TallyAt : List ℕ → List ℕ → List ℕ → ℕ → Type 0
+TallyAt t ds ns p = (length t ≡ width) × ((d : ℕ) → 1 ≤ d → d ≤ width → rowFn t d ≡ tally d (namesDown p ds ns))
+
+-- Two rows together count, of each of the first k desks, what the tally counts.
+unfoldable pub allCounted : ℕ → List ℕ → List ℕ → List ℕ → Bool
+allCounted zero r s t = true
+allCounted (suc k) r s t = leb (getD t k 0) (max (getD r k 0) (getD s k 0)) && allCounted k r s t
+
+-- The pass of the trace down to a place, the one asked for or an earlier one, where the rows are final: they count every mark before it.
+pub record Settled (ds ns ss entries : List ℕ) (at : ℕ) (before : List ℕ) (to : ℕ) (after : List ℕ) : Type 0 where
+  pub place : ℕ
+  pub low : place ≤ to
+  pub within : place ≤ at
+  pub traced : Traced ds ns ss entries at before place after
+  pub covers : (d : ℕ) → 1 ≤ d → d ≤ width → tally d (namesDown place ds ns) ≤ max (rowFn entries d) (rowFn after d)
+
+-- The greater counts of two rows, added up over the first k desks.
+unfoldable pub greaterSum : ℕ → List ℕ → List ℕ → ℕ
+greaterSum zero r s = 0
+greaterSum (suc k) r s = max (getD r k 0) (getD s k 0) + greaterSum k r s
 
 -- A mark stands at a place from p on, of the first so many.
 pub record StandsFrom (ds ns : List ℕ) (count p : ℕ) (i : MarkId) : Type 0 where

@@ -5,7 +5,7 @@ ghost use lib.Dec.{leb};
 ghost use lib.ListN.{length, getD};
 ghost use Rattle.causality.specs.Marks.{places};
 ghost use Rattle.rows.specs.View.{width, Named};
-ghost use Rattle.predecessors.specs.Steps.{Joined, Traced, aboveIn, Oldest, missingBy, falseBy};
+ghost use Rattle.predecessors.specs.Steps.{Joined, Traced, TallyAt, allCounted, Settled, greaterSum, aboveIn, Oldest, missingBy, falseBy};
 use causality::Place;
 use rows::PLACES;
 use rows::WIDTH;
@@ -63,10 +63,71 @@ pub fn trace<'a>(
     let n = numbers[p];
     if counted(entries, below, d - 1, n) {
         join(stamps, p, below);
-        trace(desks, numbers, stamps, entries, below, Place(p), to)
-    } else {
-        trace(desks, numbers, stamps, entries, below, Place(p), to)
     }
+    trace(desks, numbers, stamps, entries, below, Place(p), to)
+}
+
+// Do two rows together count every mark that a tally counts?
+fn covered<'a>(entries: &'a [u16; WIDTH], below: &'a [u16; WIDTH], tally: &'a [u16; WIDTH]) -> bool
+    ensures { λ r. ⌜ r ≡ allCounted width (now (entries .entry)) (now (below .entry)) (now (tally .entry)) ⌝ }
+{
+    let mut j = 0;
+    while j < WIDTH {
+        if !counted(entries, below, j, tally[j]) {
+            return false;
+        }
+        j += 1;
+    }
+    true
+}
+
+// The trace from a place down until the rows are final: from the second place on it stops where they count every older mark. The tally is of the
+// marks before the place, and falls with it.
+pub fn settle<'a>(
+    desks: &'a [u8; PLACES],
+    numbers: &'a [u16; PLACES],
+    stamps: &'a [u16; PLACES * WIDTH],
+    entries: &'a [u16; WIDTH],
+    below: &mut [u16; WIDTH],
+    tally: &mut [u16; WIDTH],
+    at: Place,
+    to: Place,
+)
+    requires { ⌜ (at .0 ≤ places) × Named width (at .0) (now desks) × (length (now below) ≡ width)
+        × TallyAt (now tally) (now desks) (now numbers) (at .0) ⌝ }
+    ensures { λ _. ⌜ Settled (now (desks .entry)) (now (numbers .entry)) (now (stamps .entry)) (now (entries .entry))
+        (at .0) (now (below .entry)) (to .0) (now (below .exit)) ⌝ }
+{
+    if at.0 == 0 {
+        return;
+    }
+    if at.0 <= to.0 {
+        if covered(entries, below, tally) {
+            return;
+        }
+    }
+    let p = at.0 - 1;
+    let d = desks[p] as usize;
+    let n = numbers[p];
+    tally[d - 1] -= 1;
+    if counted(entries, below, d - 1, n) {
+        join(stamps, p, below);
+    }
+    settle(desks, numbers, stamps, entries, below, tally, Place(p), to)
+}
+
+// The greater counts of two rows, added up.
+pub fn total(entries: [u16; WIDTH], below: [u16; WIDTH]) -> u16
+    requires { ⌜ greaterSum width entries below ≤ places ⌝ }
+    ensures { λ r. ⌜ r ≡ greaterSum width entries below ⌝ }
+{
+    let mut sum: u16 = 0;
+    let mut j = 0;
+    while j < WIDTH {
+        sum += greater(entries[j], below[j]);
+        j += 1;
+    }
+    sum
 }
 
 // At how many desks a row's count is above that of another row.

@@ -6,7 +6,6 @@ use mathlib.Core.List.{List}
 use mathlib.Core.Logic.{inl, inr}
 use mathlib.Core.Path.{_∙_, _≡_, ap, refl, subst, sym}
 use native.Mathlib.Omega.{arith}
-use Rattle.frame.specs.declared.MarkBox.{MarkBox}
 use Rattle.frame.specs.Answer.{gives, refuseIf, refused}
 use Rattle.frame.specs.Mark.{MarkId, isDesk}
 use Rattle.causality.specs.Calls.{earlier, firstApart, lowestNumber}
@@ -18,7 +17,7 @@ use Rattle.causality.proofs.Past.{prefix-le}
 use Rattle.causality.proofs.Reach.{Sound, precedes-listed, sound-counted}
 use Rattle.executed.specs.Rows.{Finds, Lent}
 use Rattle.executed.proofs.Chain.{found-inside, found-place}
-use Rattle.rows.specs.View.{markAt, placeAt, view, width}
+use Rattle.rows.specs.View.{Carried, markAt, placeAt, view, width}
 use Rattle.rows.proofs.Arrays.{sound-below}
 use Rattle.rows.proofs.Places.{found-none, found-some, has-at, not-before}
 use Rattle.rows.proofs.RowSteps.{not-leb}
@@ -37,7 +36,7 @@ answer-as N st a d x y v ex ey ev = λ i. refuseIf (not (ex i)) 1 (refuseIf (not
 pub first-no-desk : (N : ℕ) (st : State) (a : MarkId) (d : ℕ) → isDesk N d ≡ false → firstApart N st a d ≡ refused 1
 first-no-desk N st a d e = answer-as N st a d false _ _ e refl refl
 
-module _ (n : ℕ) (ds ns : List ℕ) (bs : ℕ → MarkBox) (ss : List ℕ) where
+module _ (n : ℕ) (ds ns : List ℕ) (bs : ℕ → Carried) (ss : List ℕ) where
   -- The marks executed before that at place p.
   earlier-at : (count p : ℕ) → Sound (view n count ds ns bs ss) → p < count → earlier ((markAt n ds ns bs ss p) .id) (ids (view n count ds ns bs ss)) ≡ ids (view n p ds ns bs ss)
   unfolding view
@@ -109,7 +108,7 @@ module _ (n : ℕ) (ds ns : List ℕ) (bs : ℕ → MarkBox) (ss : List ℕ) whe
 
 -- LENT ARRAYS
 
-module _ (count : ℕ) (ds ns ss ts ls bf : List ℕ) (l : Lent count ds ns ts ls bf) (own : ℕ) (bs : ℕ → MarkBox) (waiting : List Mark)
+module _ (count : ℕ) (ds ns ss ts ls bf : List ℕ) (l : Lent count ds ns ts ls bf) (own : ℕ) (bs : ℕ → Carried) (waiting : List Mark)
     (a : MarkId) (p : ℕ) (f : Finds ts ls bf a p) (d : ℕ) (e : isDesk width d ≡ true) where
   at : placeAt width count p ds ns bs ss ≡ find markId a (view width count ds ns bs ss)
   at = found-place count ds ns ts ls bf l a p f bs ss

@@ -9,14 +9,13 @@ use mathlib.Core.Logic.{_⊎_, inl, inr}
 use mathlib.Core.Path.{_∙_, _≡_, ap, refl, subst, sym}
 use native.Mathlib.Numerals.{sub-one}
 use native.Mathlib.Omega.{arith}
-use Rattle.frame.specs.declared.MarkBox.{MarkBox}
 use Rattle.frame.specs.Mark.{MarkId}
 use Rattle.causality.specs.Marks.{places, tally}
 use Rattle.causality.specs.State.{ids}
 use Rattle.causality.proofs.Logic.{T→eq, nT→eq, split}
 use Rattle.causality.proofs.Past.{Counted}
 use Rattle.executed.specs.Rows.{Chain, Chained, Lent, lastIn}
-use Rattle.rows.specs.View.{nameAt, namesDown, view, width}
+use Rattle.rows.specs.View.{Carried, nameAt, namesDown, view, width}
 use Rattle.rows.proofs.Places.{ids-names}
 use Rattle.queries.specs.Steps.{Down, MadeBefore, upTo}
 
@@ -198,7 +197,7 @@ module _ (count p d made q : ℕ) (ds ns ts ls bf : List ℕ) (l : Lent count ds
   at-first : (made ≡ tally d (namesDown p ds ns)) × (q ≡ lastIn d (namesDown p ds ns))
   at-first = let r = m (namesDown count ds ns) (l .chain) in let e = first-names count p ds ns h in (r .0 ∙ ap (tally d) e, r .1 ∙ ap (lastIn d) e)
 
-  pub made-first : (bs : ℕ → MarkBox) (ss : List ℕ) → made ≡ tally d (ids (view width p ds ns bs ss))
+  pub made-first : (bs : ℕ → Carried) (ss : List ℕ) → made ≡ tally d (ids (view width p ds ns bs ss))
   made-first bs ss = at-first .0 ∙ ap (tally d) (sym (ids-names width ds ns bs ss p))
 
   -- From the last of them the chain leads down all of them.

@@ -7,7 +7,6 @@ use mathlib.Core.List.{List}
 use mathlib.Core.Logic.{inl, inr}
 use mathlib.Core.Path.{_∙_, _≡_, ap, refl, subst, sym}
 use native.Mathlib.Omega.{arith}
-use Rattle.frame.specs.declared.MarkBox.{MarkBox}
 use Rattle.frame.specs.Mark.{MarkId}
 use Rattle.causality.specs.Marks.{has}
 use Rattle.causality.specs.State.{Mark, ids, precedes}
@@ -17,7 +16,7 @@ use Rattle.causality.proofs.Past.{prefix-le}
 use Rattle.causality.proofs.Reach.{Sound, not-new, precedes-old, sound-counted}
 use Rattle.causality.proofs.RowLaws.{row-of-entries, under, under-trace}
 use Rattle.causality.proofs.Rows.{rowOf, trace}
-use Rattle.rows.specs.View.{Named, markAt, nameAt, rowAt, rowFn, view}
+use Rattle.rows.specs.View.{Carried, Named, markAt, nameAt, rowAt, rowFn, view}
 use Rattle.rows.proofs.Arrays.{sound-below}
 use Rattle.rows.proofs.ByRows.{row-at, under-cong}
 use Rattle.rows.proofs.Places.{has-at, has-more, named-has, not-before, precedes-there}
@@ -26,7 +25,7 @@ use Rattle.rows.proofs.Slots.{zeros}
 use Rattle.queries.specs.Steps.{PastTold}
 use Rattle.queries.proofs.Reaching.{no-row, reached}
 
-module _ (n : ℕ) (ds ns : List ℕ) (bs : ℕ → MarkBox) (ss : List ℕ) where
+module _ (n : ℕ) (ds ns : List ℕ) (bs : ℕ → Carried) (ss : List ℕ) where
   -- What precedes a listed mark is settled by the marks before its place.
   pub precedes-view : (count k : ℕ) → Sound (view n count ds ns bs ss) → k ≤ count → (a i : MarkId) → T (has i (ids (view n k ds ns bs ss)))
       → precedes (view n count ds ns bs ss) a i ≡ precedes (view n k ds ns bs ss) a i

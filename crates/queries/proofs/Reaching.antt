@@ -7,21 +7,20 @@ use mathlib.Core.Bool.{false, true}
 use mathlib.Core.List.{List}
 use mathlib.Core.Path.{_∙_, _≡_, ap, subst, sym}
 use native.Mathlib.Omega.{arith}
-use Rattle.frame.specs.declared.MarkBox.{MarkBox}
 use Rattle.frame.specs.Mark.{MarkId}
 use Rattle.causality.specs.Marks.{has}
 use Rattle.causality.specs.State.{Mark, ids}
 use Rattle.causality.proofs.Logic.{nT→eq}
 use Rattle.causality.proofs.Reach.{Sound}
 use Rattle.causality.proofs.RowLaws.{under, under-out, under-up}
-use Rattle.rows.specs.View.{Named, rowFn, view}
+use Rattle.rows.specs.View.{Carried, Named, rowFn, view}
 use Rattle.rows.proofs.Places.{has-more}
 use Rattle.rows.proofs.RowSteps.{named-desks, named-less, under-joined, under-passed, view-last}
 
 pub no-row : (k : ℕ) → max 0 k ≡ k
 no-row k = omega arith
 
-module _ (n : ℕ) (ds ns : List ℕ) (bs : ℕ → MarkBox) (ss : List ℕ) where
+module _ (n : ℕ) (ds ns : List ℕ) (bs : ℕ → Carried) (ss : List ℕ) where
   -- What a row reaches at desk d, from the first k places.
   abbrev pub reached : ℕ → List ℕ → ℕ → ℕ
   reached k row d = under (view n k ds ns bs ss) (λ d. 0) (rowFn row) d

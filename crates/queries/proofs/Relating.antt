@@ -5,7 +5,6 @@ use mathlib.Core.Bool.{Bool, _&&_, false, not, true}
 use mathlib.Core.List.{List}
 use mathlib.Core.Path.{_∙_, _≡_, ap, refl, subst, sym}
 use native.Mathlib.Omega.{arith}
-use Rattle.frame.specs.declared.MarkBox.{MarkBox}
 use Rattle.frame.specs.Answer.{Answer, gives, refuseIf, refused}
 use Rattle.frame.specs.Mark.{MarkId}
 use Rattle.causality.specs.Answers.{After, Before, Concurrent, Relation, Same}
@@ -16,7 +15,7 @@ use Rattle.causality.proofs.Logic.{T→eq, nT→eq, same-refl, same→eq}
 use Rattle.causality.proofs.Reach.{Sound}
 use Rattle.executed.specs.Rows.{Finds, Lent}
 use Rattle.executed.proofs.Chain.{found-inside, found-place}
-use Rattle.rows.specs.View.{nameAt, placeAt, view, width}
+use Rattle.rows.specs.View.{Carried, nameAt, placeAt, view, width}
 use Rattle.rows.proofs.Places.{found-none, found-some, has-at, not-before, precedes-no-earlier}
 use Rattle.queries.specs.Lent.{lent}
 use Rattle.queries.specs.Steps.{PrecedesAt}
@@ -29,7 +28,7 @@ unfolding relate
 relate-as st a b x y s u v ex ey es eu ev =
     λ i. refuseIf (not (ex i && ey i)) 12 (gives (elim (es i) [ true ↦ Same | false ↦ elim (eu i) [ true ↦ Before | false ↦ elim (ev i) [ true ↦ After | false ↦ Concurrent ] ] ]))
 
-module _ (n count : ℕ) (ds ns : List ℕ) (bs : ℕ → MarkBox) (ss : List ℕ) (own : ℕ) (waiting : List Mark) where
+module _ (n count : ℕ) (ds ns : List ℕ) (bs : ℕ → Carried) (ss : List ℕ) (own : ℕ) (waiting : List Mark) where
   abbrev st : State
   st = record { own = own; executed = view n count ds ns bs ss; waiting = waiting }
 
@@ -82,7 +81,7 @@ module _ (n count : ℕ) (ds ns : List ℕ) (bs : ℕ → MarkBox) (ss : List �
 
 -- LENT ARRAYS
 
-module _ (count : ℕ) (ds ns ss ts ls bf : List ℕ) (l : Lent count ds ns ts ls bf) (own : ℕ) (bs : ℕ → MarkBox) (waiting : List Mark)
+module _ (count : ℕ) (ds ns ss ts ls bf : List ℕ) (l : Lent count ds ns ts ls bf) (own : ℕ) (bs : ℕ → Carried) (waiting : List Mark)
     (a b : MarkId) (p q : ℕ) (fa : Finds ts ls bf a p) (fb : Finds ts ls bf b q) where
   abbrev marks : List Mark
   marks = view width count ds ns bs ss

@@ -7,14 +7,13 @@ use mathlib.Core.Bool.{Bool, false, true}
 use mathlib.Core.List.{List}
 use mathlib.Core.Path.{_∙_, _≡_, ap, refl, subst, sym}
 use native.Mathlib.Omega.{arith}
-use Rattle.frame.specs.declared.MarkBox.{MarkBox}
 use Rattle.frame.specs.Mark.{MarkId}
 use Rattle.causality.specs.Marks.{has}
 use Rattle.causality.specs.State.{ids, precedes}
 use Rattle.causality.proofs.Logic.{nT→eq}
 use Rattle.causality.proofs.Reach.{Sound}
 use Rattle.causality.proofs.RowLaws.{under-up}
-use Rattle.rows.specs.View.{Named, nameAt, rowFn, view}
+use Rattle.rows.specs.View.{Carried, Named, nameAt, rowFn, view}
 use Rattle.rows.proofs.Arrays.{sound-below}
 use Rattle.rows.proofs.Places.{not-before}
 use Rattle.queries.specs.Steps.{Down, SeenFrom}
@@ -40,14 +39,14 @@ module _ (n : ℕ) (ds ns ss : List ℕ) (row : List ℕ) (at d k : ℕ) where
       here : nameAt ds ns (at - 1) ≡ record { desk = d; number = k }
       here = rw e (stands .2)
 
-      passed : (bs : ℕ → MarkBox) → reached n ds ns bs ss (at - 1) row d ≡ reached n ds ns bs ss at row d
+      passed : (bs : ℕ → Carried) → reached n ds ns bs ss (at - 1) row d ≡ reached n ds ns bs ss at row d
       passed bs =
           let u : getD ds (at - 1) 0 ≡ d = ap (λ (i : MarkId). i .desk) here in
           let v : getD ns (at - 1) 0 ≡ k = ap (λ (i : MarkId). i .number) here in
           let z = seen-some in
           reach-passed n ds ns bs ss at row (omega arith) (rw (u, v) h) d lo
 
-      out : (bs : ℕ → MarkBox) → Sound (view n at ds ns bs ss) → leb k (reached n ds ns bs ss (at - 1) row d) ≡ false
+      out : (bs : ℕ → Carried) → Sound (view n at ds ns bs ss) → leb k (reached n ds ns bs ss (at - 1) row d) ≡ false
       out bs s =
           let i : MarkId = record { desk = d; number = k } in
           let z = seen-some in
@@ -72,18 +71,18 @@ module _ (n : ℕ) (ds ns ss : List ℕ) (row : List ℕ) (at d k : ℕ) where
     -- It is counted, and its row is joined; or it is not.
     module _ (lo : 1 ≤ d) where
       pub joined-same : d ≤ n → Named n at ds → getD ns (at - 1) 0 ≤ rowFn row (getD ds (at - 1) 0) → (row′ : List ℕ) → ((j : ℕ) → j < n → getD row′ j 0 ≡ max (getD row j 0) (getD ss ((at - 1) * n + j) 0))
-          → (bs : ℕ → MarkBox) → reached n ds ns bs ss (at - 1) row′ d ≡ reached n ds ns bs ss at row d
+          → (bs : ℕ → Carried) → reached n ds ns bs ss (at - 1) row′ d ≡ reached n ds ns bs ss at row d
       joined-same hi f c row′ g bs = let z = seen-some in reach-joined n ds ns bs ss at row row′ (omega arith) f c g d lo hi
 
-      pub passed-same : rowFn row (getD ds (at - 1) 0) < getD ns (at - 1) 0 → (bs : ℕ → MarkBox) → reached n ds ns bs ss (at - 1) row d ≡ reached n ds ns bs ss at row d
+      pub passed-same : rowFn row (getD ds (at - 1) 0) < getD ns (at - 1) 0 → (bs : ℕ → Carried) → reached n ds ns bs ss (at - 1) row d ≡ reached n ds ns bs ss at row d
       passed-same c bs = let z = seen-some in reach-passed n ds ns bs ss at row (omega arith) c d lo
 
-  pub seen-on : (row′ : List ℕ) (r : ℕ) → ((bs : ℕ → MarkBox) → reached n ds ns bs ss (at - 1) row′ d ≡ reached n ds ns bs ss at row d) → SeenFrom n ds ns ss row′ (at - 1) d k r → SeenFrom n ds ns ss row at d k r
+  pub seen-on : (row′ : List ℕ) (r : ℕ) → ((bs : ℕ → Carried) → reached n ds ns bs ss (at - 1) row′ d ≡ reached n ds ns bs ss at row d) → SeenFrom n ds ns ss row′ (at - 1) d k r → SeenFrom n ds ns ss row at d k r
   seen-on row′ r e f bs s = f bs (sound-below n at ds ns bs ss s (at - 1) (omega arith)) ∙ ap (min k) (e bs)
 
 -- Of the first `made` marks of desk d those up to number r precede the mark at place p.
 abbrev pub SeenOf : ℕ → List ℕ → List ℕ → List ℕ → ℕ → ℕ → ℕ → ℕ → Type 0
-SeenOf n ds ns ss p d made r = (count : ℕ) (bs : ℕ → MarkBox) → p < count → Sound (view n count ds ns bs ss) → (k : ℕ) → 1 ≤ k → k ≤ made
+SeenOf n ds ns ss p d made r = (count : ℕ) (bs : ℕ → Carried) → p < count → Sound (view n count ds ns bs ss) → (k : ℕ) → 1 ≤ k → k ≤ made
     → precedes (view n count ds ns bs ss) (record { desk = d; number = k }) (nameAt ds ns p) ≡ leb k r
 
 -- They are reached from the row of its stamp.

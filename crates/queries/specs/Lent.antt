@@ -1,15 +1,14 @@
 -- What lent arrays of executed marks say: of every desk that may lend them.
 use mathlib.Core.List.{List}
 use Prim.Native.Nat.{ℕ}
-use Rattle.frame.specs.declared.MarkBox.{MarkBox}
 use Rattle.causality.specs.State.{Mark, State}
 use Rattle.causality.proofs.Reach.{Sound}
 use Rattle.executed.specs.Arrays.{Lending}
 use Rattle.executed.specs.Rows.{Lent}
-use Rattle.rows.specs.View.{view, width}
+use Rattle.rows.specs.View.{Carried, view, width}
 
 -- Beside what is lent (count, desks, numbers, stamps) stand the desk's own number, its boxes and its waiting marks, which no query reads.
-abbrev pub lent : ℕ → List ℕ → List ℕ → List ℕ → ℕ → (ℕ → MarkBox) → List Mark → State
+abbrev pub lent : ℕ → List ℕ → List ℕ → List ℕ → ℕ → (ℕ → Carried) → List Mark → State
 lent count ds ns ss own bs waiting = record { own = own; executed = view width count ds ns bs ss; waiting = waiting }
 
 -- For some count these arrays (desks, numbers, tally, last, before) are those of so many marks.
@@ -23,7 +22,7 @@ Array = Lending (List ℕ)
 
 -- P holds of every desk's state of which these arrays (desks, numbers, stamps, tally, last, before) have so many executed marks.
 abbrev pub OfCount : ℕ → Array → Array → Array → Array → Array → Array → (State → Type 0) → Type 0
-OfCount count ds ns ss ts ls bf P = (own : ℕ) (bs : ℕ → MarkBox) (waiting : List Mark)
+OfCount count ds ns ss ts ls bf P = (own : ℕ) (bs : ℕ → Carried) (waiting : List Mark)
     → Lent count (ds .entry .now) (ns .entry .now) (ts .entry .now) (ls .entry .now) (bf .entry .now)
     → Sound (view width count (ds .entry .now) (ns .entry .now) bs (ss .entry .now))
     → P (lent count (ds .entry .now) (ns .entry .now) (ss .entry .now) own bs waiting)

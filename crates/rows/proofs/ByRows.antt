@@ -9,9 +9,10 @@ use mathlib.Core.Path.{_∙_, _≡_, ap, refl, subst, sym}
 use native.Mathlib.Numerals.{sub-one}
 use native.Mathlib.Omega.{arith}
 use Rattle.frame.specs.declared.MarkBox.{MarkBox}
+use Rattle.frame.specs.declared.Past.{Past}
 use Rattle.frame.specs.Mark.{MarkId}
 use Rattle.causality.specs.Marks.{All, any, has}
-use Rattle.causality.specs.State.{Mark, falseStamp, ids, precedes, previous, ready}
+use Rattle.causality.specs.State.{Mark, falseEntries, ids, precedes, previous, ready}
 use Rattle.causality.proofs.Lists.{any-find, any-of}
 use Rattle.causality.proofs.Logic.{and-fst, and-intro, and-snd, bool-ext, or-cases, or-inl, or-inr, split}
 use Rattle.causality.proofs.Numbers.{Strict}
@@ -137,13 +138,13 @@ some-reached n s r u f = bool-ext (any p es) (someReached n s r) there back
 
 -- The false-stamp test by the row of the stamp and a row that tells of the entries and of the previous mark what is under the stamp.
 pub false-by-row : (n : ℕ) (l : List Mark) → Sound l → All (λ m. (1 ≤ m .id .desk) × (m .id .desk ≤ n)) l → (row below : List ℕ)
-    → ((d : ℕ) → 1 ≤ d → d ≤ n → 1 ≤ rowFn row d → leb (rowFn row d) (rowFn below d) ≡ leb (rowFn row d) (under l (rowFn row) (λ d. 0) d)) → (i : MarkId) (b : MarkBox) → 1 ≤ i .desk → i .desk ≤ n
+    → ((d : ℕ) → 1 ≤ d → d ≤ n → 1 ≤ rowFn row d → leb (rowFn row d) (rowFn below d) ≡ leb (rowFn row d) (under l (rowFn row) (λ d. 0) d)) → (i : MarkId) (b : MarkBox) (said : Past) → 1 ≤ i .desk → i .desk ≤ n
     → (1 < i .number → ltb (max (rowFn row (i .desk)) (rowFn below (i .desk))) (i .number - 1) ≡ ltb (max (rowFn row (i .desk)) (under l (rowFn row) (λ d. 0) (i .desk))) (i .number - 1))
-    → T (ready l (record { id = i; extent = b; stamp = entriesOfRow n (rowFn row) }))
-    → falseStamp l (record { id = i; extent = b; stamp = entriesOfRow n (rowFn row) })
+    → T (ready l (record { id = i; extent = b; stamp = entriesOfRow n (rowFn row); past = said }))
+    → falseEntries l (record { id = i; extent = b; stamp = entriesOfRow n (rowFn row); past = said })
     ≡ (someReached n row below || (ltb 1 (i .number) && ltb (max (rowFn row (i .desk)) (rowFn below (i .desk))) (i .number - 1)))
-false-by-row n l s ds row below f i b lo hi f′ t =
-    false-by-rows l s (record { id = i; extent = b; stamp = es }) (entries-strict (rowFn row) 1 n) (λ e te. shown (rowFn row) 1 n e te .pos) t
+false-by-row n l s ds row below f i b said lo hi f′ t =
+    false-by-rows l s (record { id = i; extent = b; stamp = es; past = said }) (entries-strict (rowFn row) 1 n) (λ e te. shown (rowFn row) 1 n e te .pos) t
     ∙ (let a = some-reached n row below u (λ d p q w. f d p q w ∙ ap (leb (rowFn row d)) (g d p q)) in λ k. a k || second k)
   where
     es : List MarkId

@@ -12,10 +12,9 @@ use borrow.Author.Tests.{lt-ltb, le-ltb, eq-eqb, ne-eqb}
 use lib.Dec.{eqb}
 use lib.ListN.{getD}
 use Rattle.frame.specs.Mark.{MarkId}
-use Rattle.frame.specs.declared.MarkBox.{MarkBox}
 use Rattle.causality.specs.Marks.{same, find}
 use Rattle.causality.specs.State.{Mark, markId}
-use Rattle.rows.specs.View.{rowFn, view, markAt, placeAt, sameCounts}
+use Rattle.rows.specs.View.{Carried, rowFn, view, markAt, placeAt, sameCounts}
 
 -- COMPARE
 
@@ -34,7 +33,7 @@ module _ (a b : List ℕ) where
 -- The mark of the name, if any, is among the first p.
 pub record Below (n count desk number : ℕ) (ds ns : List ℕ) (p : ℕ) : Type 0 where
   pub turns : p ≤ count
-  pub below : (bs : ℕ → MarkBox) (ss : List ℕ)
+  pub below : (bs : ℕ → Carried) (ss : List ℕ)
       → find markId (record { desk = desk; number = number }) (view n count ds ns bs ss) ≡ find markId (record { desk = desk; number = number }) (view n p ds ns bs ss)
 
 module _ (n count desk number : ℕ) (ds ns : List ℕ) where
@@ -64,7 +63,7 @@ module _ (n count desk number : ℕ) (ds ns : List ℕ) where
 
   -- The newest of them has the name.
   pub below-hit : (p : ℕ) → Below n count desk number ds ns p → 0 < p → getD ds (p - 1) 0 ≡ desk → getD ns (p - 1) 0 ≡ number
-      → (bs : ℕ → MarkBox) (ss : List ℕ) → placeAt n count (p - 1) ds ns bs ss ≡ find markId name (view n count ds ns bs ss)
+      → (bs : ℕ → Carried) (ss : List ℕ) → placeAt n count (p - 1) ds ns bs ss ≡ find markId name (view n count ds ns bs ss)
   unfolding placeAt view
   below-hit zero w h d m bs ss = let z : ⊥ = omega arith in absurd z
   below-hit (suc k) w h d m bs ss =
@@ -90,6 +89,6 @@ module _ (n count desk number : ℕ) (ds ns : List ℕ) where
   below-no-number p w h m = below-miss p w h (miss-number (p - 1) m)
 
   -- None is left.
-  pub below-none : (p : ℕ) → Below n count desk number ds ns p → p ≡ 0 → (bs : ℕ → MarkBox) (ss : List ℕ) → placeAt n count count ds ns bs ss ≡ find markId name (view n count ds ns bs ss)
+  pub below-none : (p : ℕ) → Below n count desk number ds ns p → p ≡ 0 → (bs : ℕ → Carried) (ss : List ℕ) → placeAt n count count ds ns bs ss ≡ find markId name (view n count ds ns bs ss)
   unfolding placeAt view
   below-none p w e bs ss = rw (le-ltb count count (omega arith), placeAt) (sym (w .below bs ss ∙ ap (λ (k : ℕ). find markId name (view n k ds ns bs ss)) e))

@@ -8,7 +8,6 @@ use mathlib.Core.Logic.{inl, inr}
 use mathlib.Core.Option.{none, some}
 use mathlib.Core.Path.{_∙_, _≡_, ap, refl, subst, sym}
 use native.Mathlib.Omega.{arith}
-use Rattle.frame.specs.declared.MarkBox.{MarkBox}
 use Rattle.frame.specs.Mark.{MarkId}
 use Rattle.causality.specs.Marks.{All, find, has, same}
 use Rattle.causality.specs.State.{Mark, ids, markId, precedes}
@@ -16,11 +15,11 @@ use Rattle.causality.proofs.Lists.{Picked, any-find, find-all, find-has, has-se
 use Rattle.causality.proofs.Logic.{nT→eq, or-cases, or-inr, same-refl, same→eq, split}
 use Rattle.causality.proofs.Past.{fresh-of}
 use Rattle.causality.proofs.Reach.{Sound, not-new, precedes-at, precedes-listed, precedes-old, sound-counted}
-use Rattle.rows.specs.View.{Named, markAt, nameAt, namesDown, placeAt, view}
+use Rattle.rows.specs.View.{Carried, Named, markAt, nameAt, namesDown, placeAt, view}
 use Rattle.rows.proofs.Arrays.{sound-below}
 use Rattle.rows.proofs.RowSteps.{named-at, named-less}
 
-module _ (n : ℕ) (ds ns : List ℕ) (bs : ℕ → MarkBox) (ss : List ℕ) where
+module _ (n : ℕ) (ds ns : List ℕ) (bs : ℕ → Carried) (ss : List ℕ) where
   abbrev at : ℕ → Mark
   at p = markAt n ds ns bs ss p
 

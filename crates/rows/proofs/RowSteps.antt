@@ -11,12 +11,11 @@ use mathlib.Core.Path.{_∙_, _≡_, ap, refl, subst, sym}
 use native.Mathlib.Nat.{eq-or-lt-of-le}
 use native.Mathlib.Numerals.{add-one, sub-one}
 use native.Mathlib.Omega.{arith}
-use Rattle.frame.specs.declared.MarkBox.{MarkBox}
 use Rattle.causality.specs.Marks.{All}
 use Rattle.causality.specs.State.{Mark}
 use Rattle.causality.proofs.Rows.{rowOf}
 use Rattle.causality.proofs.RowLaws.{entriesOfRow, row-of-entries, under}
-use Rattle.rows.specs.View.{Named, markAt, rowAt, rowFn, someReached, view}
+use Rattle.rows.specs.View.{Carried, Named, markAt, rowAt, rowFn, someReached, view}
 use Rattle.rows.proofs.ByRows.{row-at, under-cong}
 
 -- The first j of a row's n counts are those of f, the later ones are as at the start.
@@ -109,7 +108,7 @@ unfolding Named
 named-less n count ds p f h q l = f q (omega arith)
 
 -- Marks of named desks.
-pub named-desks : (n count : ℕ) (ds ns : List ℕ) (bs : ℕ → MarkBox) (ss : List ℕ) → Named n count ds → All (λ m. (1 ≤ m .id .desk) × (m .id .desk ≤ n)) (view n count ds ns bs ss)
+pub named-desks : (n count : ℕ) (ds ns : List ℕ) (bs : ℕ → Carried) (ss : List ℕ) → Named n count ds → All (λ m. (1 ≤ m .id .desk) × (m .id .desk ≤ n)) (view n count ds ns bs ss)
 unfolding view Named
 named-desks n zero ds ns bs ss f = tt
 named-desks n (suc k) ds ns bs ss f = (f k (omega arith), named-desks n k ds ns bs ss (λ p l. f p (omega arith)))
@@ -132,7 +131,7 @@ under-append (m ∷ xs) ys s r = go (leb (m .id .number) (max (s (m .id .desk)) 
     go true y n = y
     go false y n = n
 
-module _ (n : ℕ) (ds ns : List ℕ) (bs : ℕ → MarkBox) (ss : List ℕ) where
+module _ (n : ℕ) (ds ns : List ℕ) (bs : ℕ → Carried) (ss : List ℕ) where
   -- The mark at the last place stands in front.
   pub view-last : (k : ℕ) → 0 < k → view n k ds ns bs ss ≡ markAt n ds ns bs ss (k - 1) ∷ view n (k - 1) ds ns bs ss
   unfolding view
@@ -171,22 +170,37 @@ module _ (n : ℕ) (ds ns : List ℕ) (bs : ℕ → MarkBox) (ss : List ℕ) whe
         → (d : ℕ) → under l s (rowFn row) d ≡ under (markAt n ds ns bs ss p ∷ l) s (rowFn row) d
     under-passed p l row q d = rw (q, under) refl
 
-    -- The same for the pass down to a place: that place is reached; the mark at the last place is covered; it is not.
+    -- The pass down to a place: that place is reached.
     pub pass-ended : (k to : ℕ) (row : List ℕ) → k ≤ to → (j : ℕ) → getD row j 0 ≡ under (take (k - to) (view n k ds ns bs ss)) s (rowFn row) (suc j)
     pass-ended k to row l j = let e : k - to ≡ 0 = omega arith in rw (e, sub-one (suc j)) refl
 
-    pub pass-joined : (k to : ℕ) → to < k → Named n k ds → (row row′ : List ℕ) → leb (getD ns (k - 1) 0) (max (s (getD ds (k - 1) 0)) (rowFn row (getD ds (k - 1) 0))) ≡ true
-        → ((j : ℕ) → j < n → getD row′ j 0 ≡ max (getD row j 0) (getD ss ((k - 1) * n + j) 0)) → (j : ℕ) → j < n
-        → under (take (k - 1 - to) (view n (k - 1) ds ns bs ss)) s (rowFn row′) (suc j) ≡ under (take (k - to) (view n k ds ns bs ss)) s (rowFn row) (suc j)
-    pass-joined k to h f row row′ q e j l =
-        under-joined (k - 1) (take (k - 1 - to) (view n (k - 1) ds ns bs ss)) (all-take (λ m. (1 ≤ m .id .desk) × (m .id .desk ≤ n)) (k - 1 - to) (view n (k - 1) ds ns bs ss)
-        (named-desks n (k - 1) ds ns bs ss (named-less n k ds (k - 1) f (omega arith)))) row row′ q e j l
-        ∙ ap (λ (x : List Mark). under x s (rowFn row) (suc j)) (sym (last-between k to h))
+    -- One mark: its row is joined, or it is not covered and the row stays.
+    alone : (p : ℕ) → take (suc p - p) (view n (suc p) ds ns bs ss) ≡ markAt n ds ns bs ss p ∷ []
+    unfolding view
+    alone p = let e : suc p - p ≡ 1 = omega arith in rw e refl
 
-    pub pass-passed : (k to : ℕ) → to < k → (row : List ℕ) → leb (getD ns (k - 1) 0) (max (s (getD ds (k - 1) 0)) (rowFn row (getD ds (k - 1) 0))) ≡ false → (j : ℕ)
-        → under (take (k - 1 - to) (view n (k - 1) ds ns bs ss)) s (rowFn row) (suc j) ≡ under (take (k - to) (view n k ds ns bs ss)) s (rowFn row) (suc j)
-    pass-passed k to h row q j =
-        under-passed (k - 1) (take (k - 1 - to) (view n (k - 1) ds ns bs ss)) row q (suc j) ∙ ap (λ (x : List Mark). under x s (rowFn row) (suc j)) (sym (last-between k to h))
+    pub one-turn : (p : ℕ) (row row′ : List ℕ)
+        → ((leb (getD ns p 0) (max (s (getD ds p 0)) (rowFn row (getD ds p 0))) ≡ true) × ((j : ℕ) → j < n → getD row′ j 0 ≡ max (getD row j 0) (getD ss (p * n + j) 0)))
+        ⊎ ((leb (getD ns p 0) (max (s (getD ds p 0)) (rowFn row (getD ds p 0))) ≡ false) × (row′ ≡ row))
+        → (j : ℕ) → j < n → getD row′ j 0 ≡ under (take (suc p - p) (view n (suc p) ds ns bs ss)) s (rowFn row) (suc j)
+    one-turn p row row′ (inl w) j l = rw (alone p) (ap (λ (k : ℕ). getD row′ k 0) (sym (sub-one (suc j))) ∙ under-joined p [] tt row row′ (w .0) (w .1) j l)
+    one-turn p row row′ (inr w) j l = rw (w .1) (rw (alone p) (ap (λ (k : ℕ). getD row k 0) (sym (sub-one (suc j))) ∙ under-passed p [] row (w .0) (suc j)))
+
+    -- The mark at the last place, then the pass over those before it.
+    pub pass-step : (k to : ℕ) → to < k → Named n k ds → (row row′ : List ℕ)
+        → ((j : ℕ) → j < n → getD row′ j 0 ≡ under (take (suc (k - 1) - (k - 1)) (view n (suc (k - 1)) ds ns bs ss)) s (rowFn row) (suc j)) → (j : ℕ) → j < n
+        → under (take (k - 1 - to) (view n (k - 1) ds ns bs ss)) s (rowFn row′) (suc j) ≡ under (take (k - to) (view n k ds ns bs ss)) s (rowFn row) (suc j)
+    pass-step k to h f row row′ e j l =
+        under-cong n rest (all-take (λ m. (1 ≤ m .id .desk) × (m .id .desk ≤ n)) (k - 1 - to) (view n (k - 1) ds ns bs ss)
+        (named-desks n (k - 1) ds ns bs ss (named-less n k ds (k - 1) f (omega arith)))) s s (rowFn row′) (under first s (rowFn row)) (λ d lo hi. refl)
+        (row-at n row′ (under first s (rowFn row)) (λ i m. e i m ∙ ap (λ (x : List Mark). under x s (rowFn row) (suc i)) (alone (k - 1)))) (suc j) (omega arith) (omega arith)
+        ∙ ap (λ (g : ℕ → ℕ). g (suc j)) (sym (under-append first rest s (rowFn row))) ∙ ap (λ (x : List Mark). under x s (rowFn row) (suc j)) (sym (last-between k to h))
+      where
+        first : List Mark
+        first = markAt n ds ns bs ss (k - 1) ∷ []
+
+        rest : List Mark
+        rest = take (k - 1 - to) (view n (k - 1) ds ns bs ss)
 
     -- A pass down to a place, and the pass over the marks before it gives what the whole pass gives.
     pub pass-rest : (k to : ℕ) → to ≤ k → Named n k ds → (row row′ : List ℕ)

@@ -13,7 +13,7 @@ use Rattle.frame.specs.declared.MarkBox.{MarkBox}
 use Rattle.causality.proofs.RowLaws.{entriesOfRow}
 use Rattle.rows.specs.declared.Held.{Held}
 use Rattle.rows.specs.Steps.{HasSlot, Stored}
-use Rattle.rows.specs.View.{SameOutside, Slots, ZeroFrom, boxAt, heldId, heldMark, markAt, rowAt, rowFn, view, width}
+use Rattle.rows.specs.View.{Carried, SameOutside, Slots, ZeroFrom, boxAt, carriedAt, heldId, heldMark, markAt, pastFrom, rowAt, rowFn, view, width}
 use Rattle.rows.proofs.Arrays.{SameBelow, view-push}
 use Rattle.rows.proofs.ByRows.{entries-cong}
 use Rattle.rows.proofs.Stores.{boxes-below, outside-none, outside-set, zero-after}
@@ -28,8 +28,8 @@ zeros (suc n) (suc p) = zeros n p
 pub zero-all : (n k : ℕ) → ZeroFrom (replicate n 0) n k
 zero-all n k = record { long = length-replicate {A = ℕ} n 0; zeros = λ p l. zeros n p }
 
-pub slots-none : (n : ℕ) → Slots n 0 (replicate n 0) (replicate n 0) (replicate (n * 4) 0) (replicate (n * width) 0)
-slots-none n = record { desks = zero-all n 0; numbers = zero-all n 0; boxes = zero-all (n * 4) 0; stamps = zero-all (n * width) 0 }
+pub slots-none : (n : ℕ) → Slots n 0 (replicate n 0) (replicate n 0) (replicate (n * 4) 0) (replicate n 0) (replicate (n * width) 0)
+slots-none n = record { desks = zero-all n 0; numbers = zero-all n 0; boxes = zero-all (n * 4) 0; pasts = zero-all n 0; stamps = zero-all (n * width) 0 }
 
 -- One more index is in use.
 pub zero-one : (xs : List ℕ) (n k v : ℕ) → ZeroFrom xs n k → ZeroFrom (set xs k v) n (k + 1)
@@ -39,50 +39,65 @@ zero-one xs n k v z = record { long = length-set xs k v ∙ z .long; zeros = λ 
 pub row-fits : (w p n : ℕ) → p < n → p * w + w ≤ n * w
 row-fits w p n h = rw (← suc-mul) (mul-le-mul-right w h)
 
-pub has-slot : (n count p : ℕ) (ds ns bs ss : List ℕ) → Slots n count ds ns bs ss → p < n → HasSlot p ds ns bs ss
-has-slot n count p ds ns bs ss s h =
+pub has-slot : (n count p : ℕ) (ds ns bs ps ss : List ℕ) → Slots n count ds ns bs ps ss → p < n → HasSlot p ds ns bs ps ss
+has-slot n count p ds ns bs ps ss s h =
     let a = s .desks .long in
     let b = s .numbers .long in
     let c = s .boxes .long in
+    let g = s .pasts .long in
     let e = s .stamps .long in
     let r = row-fits width p n h in
-    record { desks = omega arith; numbers = omega arith; boxes = omega arith; stamps = omega arith }
+    record { desks = omega arith; numbers = omega arith; boxes = omega arith; pasts = omega arith; stamps = omega arith }
 
 -- The mark in a slot, with its stamp as a row.
-pub mark-read : (w : ℕ) (ds ns : List ℕ) (bs : ℕ → MarkBox) (ss : List ℕ) (p : ℕ) (b : MarkBox) (row : List ℕ) → b ≡ bs p → ((j : ℕ) → j < w → getD row j 0 ≡ getD ss (p * w + j) 0)
-    → record { id = record { desk = getD ds p 0; number = getD ns p 0 }; extent = b; stamp = entriesOfRow w (rowFn row) } ≡ markAt w ds ns bs ss p
+pub mark-read : (w : ℕ) (ds ns : List ℕ) (bs : ℕ → Carried) (ss : List ℕ) (p : ℕ) (b : Carried) (row : List ℕ) → b ≡ bs p → ((j : ℕ) → j < w → getD row j 0 ≡ getD ss (p * w + j) 0)
+    → record { id = record { desk = getD ds p 0; number = getD ns p 0 }; extent = b .extent; stamp = entriesOfRow w (rowFn row); past = b .past } ≡ markAt w ds ns bs ss p
 mark-read w ds ns bs ss p b row q f =
     let e = entries-cong w (rowFn row) (rowAt w ss p) (λ d x y. f (d - 1) (omega arith)) in
-    λ i. record { id = record { desk = getD ds p 0; number = getD ns p 0 }; extent = q i; stamp = e i }
+    λ i. record { id = record { desk = getD ds p 0; number = getD ns p 0 }; extent = q i .extent; stamp = e i; past = q i .past }
 
 -- ONE MARK MORE, in the first unused slot
 
 outside-one : (xs : List ℕ) (k v : ℕ) → SameOutside xs (set xs k v) k 1
 outside-one xs k v = outside-set xs k 1 xs k v (outside-none xs k 1) (omega arith) (omega arith)
 
-pushed : (w count : ℕ) (ds ns bs ss bs′ ss′ : List ℕ) (i : MarkId) (b : MarkBox) (row : List ℕ) → count < length ds → count < length ns
+-- What is carried below a place is as it was.
+pub carried-below : (bs ps bs′ : List ℕ) (count v : ℕ) → SameOutside bs bs′ (count * 4) 4 → (p : ℕ) → p < count → carriedAt bs′ (set ps count v) p ≡ carriedAt bs ps p
+carried-below bs ps bs′ count v ob p l =
+    let b = boxes-below bs bs′ count ob p l in
+    let e = (outside-one ps count v) .same p (inl l) in
+    λ i. record { extent = b i; past = pastFrom (e i) }
+
+pushed : (w count : ℕ) (ds ns bs ps ss bs′ ss′ : List ℕ) (i : MarkId) (b : MarkBox) (v : ℕ) (row : List ℕ) → count < length ds → count < length ns → count < length ps
     → SameOutside bs bs′ (count * 4) 4 → boxAt bs′ count ≡ b → SameOutside ss ss′ (count * w) w → ((j : ℕ) → j < w → getD ss′ (count * w + j) 0 ≡ getD row j 0)
-    → view w (suc count) (set ds count (i .desk)) (set ns count (i .number)) (boxAt bs′) ss′ ≡ record { id = i; extent = b; stamp = entriesOfRow w (rowFn row) } ∷ view w count ds ns (boxAt bs) ss
-pushed w count ds ns bs ss bs′ ss′ i b row ld ln ob eb os er =
-    view-push w count ds ns (boxAt bs) ss (set ds count (i .desk)) (set ns count (i .number)) (boxAt bs′) ss′
+    → view w (suc count) (set ds count (i .desk)) (set ns count (i .number)) (carriedAt bs′ (set ps count v)) ss′
+    ≡ record { id = i; extent = b; stamp = entriesOfRow w (rowFn row); past = pastFrom v } ∷ view w count ds ns (carriedAt bs ps) ss
+pushed w count ds ns bs ps ss bs′ ss′ i b v row ld ln lp ob eb os er =
+    let ep = getD-set-same ps count v 0 lp in
+    view-push w count ds ns (carriedAt bs ps) ss (set ds count (i .desk)) (set ns count (i .number)) (carriedAt bs′ (set ps count v)) ss′
     (record {
       desks = λ p q. (outside-one ds count (i .desk)) .same p (inl q);
       numbers = λ p q. (outside-one ns count (i .number)) .same p (inl q);
-      boxes = boxes-below bs bs′ count ob;
+      boxes = carried-below bs ps bs′ count v ob;
       stamps = λ q m. os .same q (inl m);
-    }) i b row (getD-set-same ds count (i .desk) 0 ld) (getD-set-same ns count (i .number) 0 ln) eb er
+    }) i (record { extent = b; past = pastFrom v }) row (getD-set-same ds count (i .desk) 0 ld) (getD-set-same ns count (i .number) 0 ln)
+    (λ k. record { extent = eb k; past = pastFrom (ep k) }) er
 
-module _ (n count : ℕ) (h : Held) (ds ns bs ss ds′ ns′ bs′ ss′ : List ℕ) (s : Slots n count ds ns bs ss) (room : count < n) (x : Stored count h ds ns bs ss ds′ ns′ bs′ ss′) where
-  pub stored-view : view width (count + 1) ds′ ns′ (boxAt bs′) ss′ ≡ heldMark h ∷ view width count ds ns (boxAt bs) ss
+module _ (n count : ℕ) (h : Held) (ds ns bs ps ss ds′ ns′ bs′ ps′ ss′ : List ℕ) (s : Slots n count ds ns bs ps ss) (room : count < n)
+    (x : Stored count h ds ns bs ps ss ds′ ns′ bs′ ps′ ss′) where
+  pub stored-view : view width (count + 1) ds′ ns′ (carriedAt bs′ ps′) ss′ ≡ heldMark h ∷ view width count ds ns (carriedAt bs ps) ss
   stored-view =
       let a = s .desks .long in
       let b = s .numbers .long in
-      rw (x .desks, x .numbers, add-one count) (pushed width count ds ns bs ss bs′ ss′ (heldId h) (h .extent) (h .row) (omega arith) (omega arith) (x .boxes) (x .extent) (x .stamps) (x .row))
+      let c = s .pasts .long in
+      rw (x .desks, x .numbers, x .pasts, add-one count) (pushed width count ds ns bs ps ss bs′ ss′ (heldId h) (h .extent) (h .past) (h .row) (omega arith) (omega arith) (omega arith)
+      (x .boxes) (x .extent) (x .stamps) (x .row))
 
-  pub stored-slots : Slots n (count + 1) ds′ ns′ bs′ ss′
+  pub stored-slots : Slots n (count + 1) ds′ ns′ bs′ ps′ ss′
   stored-slots = record {
     desks = rw (x .desks) (zero-one ds n count (h .desk) (s .desks));
     numbers = rw (x .numbers) (zero-one ns n count (h .number .0) (s .numbers));
+    pasts = rw (x .pasts) (zero-one ps n count (h .past) (s .pasts));
     boxes = let e : count * 4 + 4 ≡ (count + 1) * 4 = omega arith in subst (λ (k : ℕ). ZeroFrom bs′ (n * 4) k) e (zero-after bs (count * 4) 4 bs′ (n * 4) (s .boxes) (x .boxes));
     stamps = let e : count * width + width ≡ (count + 1) * width = omega arith in
         subst (λ (k : ℕ). ZeroFrom ss′ (n * width) k) e (zero-after ss (count * width) width ss′ (n * width) (s .stamps) (x .stamps));

@@ -9,6 +9,8 @@ use lib.Dec.{leb, ltb, eqb}
 use lib.ListN.{length, getD}
 use Rattle.frame.specs.Mark.{MarkId, desks}
 use Rattle.frame.specs.declared.MarkBox.{MarkBox}
+use Rattle.frame.specs.declared.Past.{Past}
+use Rattle.frame.specs.declared.Past.the-variants.{Unsaid, Said}
 use Rattle.causality.specs.State.{Mark}
 use Rattle.causality.proofs.RowLaws.{entriesOfRow}
 use Rattle.rows.specs.declared.Held.{Held}
@@ -21,12 +23,21 @@ width = desks
 abbrev pub rowFn : List ℕ → ℕ → ℕ
 rowFn r d = getD r (d - 1) 0
 
+-- What is said of a past, as a number: 0 where nothing is said, else one more than the count.
+abbrev pub pastFrom : ℕ → Past
+pastFrom zero = Unsaid
+pastFrom (suc n) = Said n
+
 -- The name of a mark with its stamp as a row, and the mark.
 abbrev pub heldId : Held → MarkId
 heldId h = record { desk = h .desk; number = h .number .0 }
 
 abbrev pub heldMark : Held → Mark
-heldMark h = record { id = heldId h; extent = h .extent; stamp = entriesOfRow width (rowFn (h .row)) }
+heldMark h = record { id = heldId h; extent = h .extent; stamp = entriesOfRow width (rowFn (h .row)); past = pastFrom (h .past) }
+
+-- The same mark with another past.
+abbrev pub heldWith : Held → ℕ → Held
+heldWith h p = record { desk = h .desk; number = h .number; extent = h .extent; past = p; row = h .row }
 
 -- Row p of stamps that are laid out row behind row, n counts each.
 abbrev pub rowAt : ℕ → List ℕ → ℕ → ℕ → ℕ
@@ -39,6 +50,14 @@ noBox = record { start = 0; end = 0; low = 0; high = 0 }
 abbrev pub boxAt : List ℕ → ℕ → MarkBox
 boxAt xs p = record { start = getD xs (p * 4) 0; end = getD xs (p * 4 + 1) 0; low = getD xs (p * 4 + 2) 0; high = getD xs (p * 4 + 3) 0 }
 
+-- What a mark carries beside its name and its stamp: its box, and what is said of its past. At place p of boxes and pasts.
+pub record Carried : Type 0 where
+  pub extent : MarkBox
+  pub past : Past
+
+abbrev pub carriedAt : List ℕ → List ℕ → ℕ → Carried
+carriedAt bs ps p = record { extent = boxAt bs p; past = pastFrom (getD ps p 0) }
+
 -- The name at a place, and the first so many names, newest first.
 abbrev pub nameAt : List ℕ → List ℕ → ℕ → MarkId
 nameAt ds ns p = record { desk = getD ds p 0; number = getD ns p 0 }
@@ -47,16 +66,17 @@ abbrev pub namesDown : ℕ → List ℕ → List ℕ → List MarkId
 namesDown zero ds ns = []
 namesDown (suc k) ds ns = nameAt ds ns k ∷ namesDown k ds ns
 
--- The mark at place p: desks, numbers, boxes by place, stamps.
-abbrev pub markAt : ℕ → List ℕ → List ℕ → (ℕ → MarkBox) → List ℕ → ℕ → Mark
+-- The mark at place p: desks, numbers, what is carried by place, stamps.
+abbrev pub markAt : ℕ → List ℕ → List ℕ → (ℕ → Carried) → List ℕ → ℕ → Mark
 markAt n ds ns bs ss p = record {
   id = nameAt ds ns p;
-  extent = bs p;
+  extent = bs p .extent;
   stamp = entriesOfRow n (rowAt n ss p);
+  past = bs p .past;
 }
 
 -- The first so many of them, newest first.
-unfoldable pub view : ℕ → ℕ → List ℕ → List ℕ → (ℕ → MarkBox) → List ℕ → List Mark
+unfoldable pub view : ℕ → ℕ → List ℕ → List ℕ → (ℕ → Carried) → List ℕ → List Mark
 view n zero ds ns bs ss = []
 view n (suc p) ds ns bs ss = markAt n ds ns bs ss p ∷ view n p ds ns bs ss
 
@@ -70,7 +90,7 @@ someReached zero s r = false
 someReached (suc k) s r = (ltb 0 (getD s k 0) && leb (getD s k 0) (getD r k 0)) || someReached k s r
 
 -- The mark at a place below the count, or none.
-unfoldable pub placeAt : ℕ → ℕ → ℕ → List ℕ → List ℕ → (ℕ → MarkBox) → List ℕ → Option Mark
+unfoldable pub placeAt : ℕ → ℕ → ℕ → List ℕ → List ℕ → (ℕ → Carried) → List ℕ → Option Mark
 placeAt n count p ds ns bs ss = elim (ltb p count) [ true ↦ some (markAt n ds ns bs ss p) | false ↦ none ]
 
 -- Two rows have the same counts for the first k desks.
@@ -89,8 +109,9 @@ pub record SameOutside (before after : List ℕ) (base n : ℕ) : Type 0 where
   pub same : (q : ℕ) → (q < base) ⊎ (base + n ≤ q) → getD after q 0 ≡ getD before q 0
 
 -- Arrays with room for n marks, of which the slots from the count on are zero.
-pub record Slots (n count : ℕ) (ds ns bs ss : List ℕ) : Type 0 where
+pub record Slots (n count : ℕ) (ds ns bs ps ss : List ℕ) : Type 0 where
   pub desks : ZeroFrom ds n count
   pub numbers : ZeroFrom ns n count
   pub boxes : ZeroFrom bs (n * 4) (count * 4)
+  pub pasts : ZeroFrom ps n count
   pub stamps : ZeroFrom ss (n * width) (count * width)

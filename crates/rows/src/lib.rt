@@ -2,14 +2,16 @@
 ghost use mathlib.Core.Path.{_≡_};
 ghost use Prim.Native.Nat.{ℕ, suc, _+_, _*_, _≤_, _<_};
 ghost use lib.ListN.{length, getD};
-ghost use Rattle.frame.specs.Frame.{entriesOf};
+ghost use mathlib.Core.Bool.{false};
+ghost use Rattle.frame.specs.Frame.{entriesOf, pastBad};
 ghost use Rattle.frame.specs.declared.MarkBox.{MarkBox};
 ghost use Rattle.causality.proofs.Rows.{rowOf};
-ghost use Rattle.rows.specs.View.{width, rowFn, markAt, heldMark, sameCounts, boxAt, SameOutside};
+ghost use Rattle.rows.specs.View.{width, rowFn, markAt, heldMark, heldWith, sameCounts, boxAt, carriedAt, pastFrom, SameOutside};
 ghost use Rattle.rows.specs.Steps.{EntriesIn, HasSlot, Stored};
 use frame::DESKS;
 use frame::MarkBox;
 use frame::Number;
+use frame::Past;
 
 // A row has a count for each desk; a desk has so many places, for executed and waiting marks together.
 pub const WIDTH: usize = DESKS as usize;
@@ -19,12 +21,50 @@ pub const PLACES: usize = 512;
 // Values of a box.
 pub const BOX: usize = 4;
 
-// A mark with its stamp as a row: at index d − 1 the number that it names of desk d, or 0.
+// A mark with its stamp as a row: at index d − 1 the number that it names of desk d, or 0. Its past is 0 where nothing is said of it, else one more
+// than the count.
 pub struct Held {
     pub desk: u8,
     pub number: Number,
     pub extent: MarkBox,
+    pub past: u16,
     pub row: [u16; WIDTH],
+}
+
+// What is said of a past, by the number that stands for it, and that number.
+pub fn past_from(said: u16) -> Past
+    ensures { λ r. ⌜ r ≡ pastFrom said ⌝ }
+{
+    if said == 0 {
+        return Past::Unsaid;
+    }
+    Past::Said(said - 1)
+}
+
+pub fn past_number(past: Past) -> u16
+    requires { ⌜ pastBad past ≡ false ⌝ }
+    ensures { λ r. ⌜ pastFrom r ≡ past ⌝ }
+{
+    match past {
+        Past::Unsaid => 0,
+        Past::Said(n) => n + 1,
+    }
+}
+
+// The same mark with another past.
+pub fn with_past(h: Held, past: u16) -> Held
+    ensures { λ r. ⌜ r ≡ heldWith h past ⌝ }
+{
+    let number = h.number;
+    let extent = h.extent;
+    let row = h.row;
+    Held {
+        desk: h.desk,
+        number: number,
+        extent: extent,
+        past: past,
+        row: row,
+    }
 }
 
 // The row of entries that are given as bytes.
@@ -136,11 +176,13 @@ pub fn mark_at<'a>(
     desks: &'a [u8],
     numbers: &'a [u16],
     boxes: &'a [u32],
+    pasts: &'a [u16],
     stamps: &'a [u16],
     p: usize,
 ) -> Held
-    requires { ⌜ HasSlot p (now desks) (now numbers) (now boxes) (now stamps) ⌝ }
-    ensures { λ r. ⌜ heldMark r ≡ markAt width (now (desks .entry)) (now (numbers .entry)) (boxAt (now (boxes .entry))) (now (stamps .entry)) p ⌝ }
+    requires { ⌜ HasSlot p (now desks) (now numbers) (now boxes) (now pasts) (now stamps) ⌝ }
+    ensures { λ r. ⌜ heldMark r
+        ≡ markAt width (now (desks .entry)) (now (numbers .entry)) (carriedAt (now (boxes .entry)) (now (pasts .entry))) (now (stamps .entry)) p ⌝ }
 {
     let extent = box_at(boxes, p);
     let row = row_at(stamps, p);
@@ -148,6 +190,7 @@ pub fn mark_at<'a>(
         desk: desks[p],
         number: Number(numbers[p]),
         extent: extent,
+        past: pasts[p],
         row: row,
     }
 }
@@ -157,13 +200,14 @@ pub fn store(
     desks: &mut [u8],
     numbers: &mut [u16],
     boxes: &mut [u32],
+    pasts: &mut [u16],
     stamps: &mut [u16],
     p: usize,
     h: Held,
 )
-    requires { ⌜ HasSlot p (now desks) (now numbers) (now boxes) (now stamps) ⌝ }
-    ensures { λ _. ⌜ Stored p h (now (desks .entry)) (now (numbers .entry)) (now (boxes .entry)) (now (stamps .entry))
-        (now (desks .exit)) (now (numbers .exit)) (now (boxes .exit)) (now (stamps .exit)) ⌝ }
+    requires { ⌜ HasSlot p (now desks) (now numbers) (now boxes) (now pasts) (now stamps) ⌝ }
+    ensures { λ _. ⌜ Stored p h (now (desks .entry)) (now (numbers .entry)) (now (boxes .entry)) (now (pasts .entry)) (now (stamps .entry))
+        (now (desks .exit)) (now (numbers .exit)) (now (boxes .exit)) (now (pasts .exit)) (now (stamps .exit)) ⌝ }
 {
     let number = h.number;
     let extent = h.extent;
@@ -172,6 +216,7 @@ pub fn store(
     put_box(boxes, p, extent);
     desks[p] = h.desk;
     numbers[p] = number.0;
+    pasts[p] = h.past;
 }
 
 // Do two rows have the same counts?

@@ -8,7 +8,7 @@ use Rattle.causality.specs.Marks.{All, places, waitingPlaces}
 use Rattle.causality.proofs.Fit.{Fit}
 use Rattle.causality.proofs.Kept.{Kept as KeptState, kept}
 use Rattle.causality.proofs.Reach.{ReachState, Sound}
-use Rattle.rows.specs.View.{Named, boxAt, width}
+use Rattle.rows.specs.View.{Named, carriedAt, width}
 use Rattle.executed.specs.Rows.{Lent}
 use Rattle.executed.proofs.Chain.{lent-of}
 use Rattle.executed.specs.Arrays.{Arrays}
@@ -19,15 +19,15 @@ use Rattle.rows.proofs.Arrays.{view-at, view-length}
 -- As many marks as the counts say.
 module _ (own : ℕ) (a : Arrays) (q : Waiting) where
   pub executed-length : length ((stateIn own a q) .executed) ≡ a .count
-  executed-length = view-length width (a .count) (a .desks) (a .numbers) (boxAt (a .boxes)) (a .stamps)
+  executed-length = view-length width (a .count) (a .desks) (a .numbers) (carriedAt (a .boxes) (a .pasts)) (a .stamps)
 
   pub waiting-length : length ((stateIn own a q) .waiting) ≡ q .count
-  waiting-length = view-length width (q .count) (q .desks) (q .numbers) (boxAt (q .boxes)) (q .stamps)
+  waiting-length = view-length width (q .count) (q .desks) (q .numbers) (carriedAt (q .boxes) (q .pasts)) (q .stamps)
 
   -- Marks that a frame can carry are of desks 1 to the width.
   pub fit-named : All (Fit desks) ((stateIn own a q) .executed) → Named width (a .count) (a .desks)
   unfolding Named
-  fit-named e p l = let f = view-at width (Fit desks) (a .count) (a .desks) (a .numbers) (boxAt (a .boxes)) (a .stamps) e p l in (f .range .low, f .range .high)
+  fit-named e p l = let f = view-at width (Fit desks) (a .count) (a .desks) (a .numbers) (carriedAt (a .boxes) (a .pasts)) (a .stamps) e p l in (f .range .low, f .range .high)
 
   pub kept-state : KeptIn own a q → KeptState desks (omega arith) (stateIn own a q)
   kept-state k = kept desks (omega arith) (k .from)
@@ -61,4 +61,4 @@ module _ (own : ℕ) (a : Arrays) (q : Waiting) where
 
   -- What the queries rest on.
   pub kept-lent : KeptIn own a q → Lent (a .count) (a .desks) (a .numbers) (a .tally) (a .last) (a .before)
-  kept-lent k = lent-of (a .count) (a .desks) (a .numbers) (boxAt (a .boxes)) (a .stamps) (a .tally) (a .heads) (a .last) (a .before) (k .ordered .rows) (kept-sound k) (kept-named k) (kept-count k)
+  kept-lent k = lent-of (a .count) (a .desks) (a .numbers) (carriedAt (a .boxes) (a .pasts)) (a .stamps) (a .tally) (a .heads) (a .last) (a .before) (k .ordered .rows) (kept-sound k) (kept-named k) (kept-count k)

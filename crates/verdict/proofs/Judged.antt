@@ -1,23 +1,22 @@
--- What Receive's tests on rows and counts say of the definitions: 7, Known and 8, and what each verdict does. n: how many desks. Assumes nothing.
+-- What Receive's tests on rows and counts say of the definitions: 7, and Known or 8. n: how many desks. Assumes nothing.
 use Prim.Native.Nat.{_≤_, suc, zero, ℕ}
 use lib.Dec.{T, eqb, eqb-refl, eqb→eq, leb, leb→le, ltb, ltb→lt, nleb→lt}
-use mathlib.Core.Bool.{Bool, _&&_, _||_}
-use mathlib.Core.List.{List, [], _∷_}
+use mathlib.Core.Bool.{Bool, _&&_, _||_, false, true}
+use mathlib.Core.List.{List}
 use mathlib.Core.Logic.{inl, inr}
 use mathlib.Core.Path.{_∙_, _≡_, ap, refl, subst, sym}
 use native.Mathlib.Omega.{arith}
-use Rattle.frame.specs.declared.MarkBox.{MarkBox}
 use Rattle.frame.specs.Mark.{MarkId}
-use Rattle.causality.specs.Calls.{frameOfMark, sameBytes, unmade}
+use Rattle.causality.specs.Calls.{sameBox, sameEntries, sameFields, unmade}
 use Rattle.causality.specs.Marks.{any, tally}
-use Rattle.causality.specs.State.{Mark, State, ids}
-use Rattle.causality.proofs.Fit.{Fit, equal-bytes, fit-back}
+use Rattle.causality.specs.State.{State, ids, sameCount}
+use Rattle.causality.proofs.Fit.{entries-same, same-entries}
 use Rattle.causality.proofs.Lists.{any-find, any-of}
-use Rattle.causality.proofs.Logic.{and-fst, and-intro, and-snd, bool-ext, split}
+use Rattle.causality.proofs.Logic.{and-fst, and-intro, and-snd, bool-ext, eq→T, split}
 use Rattle.causality.proofs.RowLaws.{entriesOfRow, row-of-entries, show, shown}
 use Rattle.causality.proofs.Rows.{rowOf}
-use Rattle.rows.specs.View.{rowFn, sameCounts}
-use Rattle.verdict.specs.Judgement.{sameBox}
+use Rattle.rows.specs.View.{heldMark, pastFrom, rowFn, sameCounts, width}
+use Rattle.rows.specs.declared.Held.{Held}
 use Rattle.rows.proofs.ByRows.{entries-cong}
 
 -- 7: of this desk and not yet made, by the tally's count for this desk.
@@ -53,22 +52,6 @@ unmade-by-row n st row lo hi i = ap (λ (b : Bool). (eqb (i .desk) (st .own) && 
 
 -- KNOWN
 
-pub same-bytes : (s t : List ℕ) → T (sameBytes s t) → s ≡ t
-same-bytes [] [] u = refl
-same-bytes [] (b ∷ t) u = absurd u
-same-bytes (a ∷ s) [] u = absurd u
-same-bytes (a ∷ s) (b ∷ t) u =
-    let e = eqb→eq a b (and-fst (eqb a b) (sameBytes s t) u) in
-    let r = same-bytes s t (and-snd (eqb a b) (sameBytes s t) u) in
-    λ i. e i ∷ r i
-
-pub bytes-same : (s t : List ℕ) → s ≡ t → T (sameBytes s t)
-bytes-same s t e = subst (λ (x : List ℕ). T (sameBytes s x)) e (self s)
-  where
-    self : (s : List ℕ) → T (sameBytes s s)
-    self [] = tt
-    self (x ∷ s) = and-intro (eqb x x) (sameBytes s s) (eqb-refl x) (self s)
-
 same-counts : (k : ℕ) (r s : ℕ → ℕ) → T (sameCounts k r s) → (d : ℕ) → 1 ≤ d → d ≤ k → r d ≡ s d
 same-counts zero r s t d p q = let z : ⊥ = omega arith in absurd z
 same-counts (suc k) r s t d p q = elim (split (leb d k)) [
@@ -81,46 +64,33 @@ counts-same zero r s f = tt
 counts-same (suc k) r s f = and-intro (eqb (r (suc k)) (s (suc k))) (sameCounts k r s)
     (subst (λ (x : ℕ). T (eqb (r (suc k)) x)) (f (suc k) (omega arith) (omega arith)) (eqb-refl (r (suc k)))) (counts-same k r s (λ d p q. f d p (omega arith)))
 
-same-box : (a b : MarkBox) → T (sameBox a b) → a ≡ b
-same-box a b t =
-    let x = eqb (a .start) (b .start) in
-    let y = eqb (a .end) (b .end) in
-    let z = eqb (a .low) (b .low) in
-    let w = eqb (a .high) (b .high) in
-    let e1 = eqb→eq (a .start) (b .start) (and-fst x (y && (z && w)) t) in
-    let t2 = and-snd x (y && (z && w)) t in
-    let e2 = eqb→eq (a .end) (b .end) (and-fst y (z && w) t2) in
-    let t3 = and-snd y (z && w) t2 in
-    let e3 = eqb→eq (a .low) (b .low) (and-fst z w t3) in
-    let e4 = eqb→eq (a .high) (b .high) (and-snd z w t3) in
-    λ i. record { start = e1 i; end = e2 i; low = e3 i; high = e4 i }
+-- Two stamps as rows have the same entries where they have the same counts.
+pub entries-by-row : (n : ℕ) (r s : ℕ → ℕ) → sameEntries (entriesOfRow n r) (entriesOfRow n s) ≡ sameCounts n r s
+entries-by-row n r s = bool-ext (sameEntries (entriesOfRow n r) (entriesOfRow n s)) (sameCounts n r s)
+    (λ t. let e = same-entries (entriesOfRow n r) (entriesOfRow n s) t in
+    counts-same n r s (λ d p q. sym (row-of-entries n r d p q) ∙ ap (λ (es : List MarkId). rowOf es d) e ∙ row-of-entries n s d p q))
+    (λ t. rw (entries-cong n r s (same-counts n r s t)) (eq→T _ (entries-same (entriesOfRow n s))))
 
-box-same : (a b : MarkBox) → a ≡ b → T (sameBox a b)
-box-same a b e = subst (λ (x : MarkBox). T (sameBox a x)) e
-    (and-intro (eqb (a .start) (a .start)) (eqb (a .end) (a .end) && (eqb (a .low) (a .low) && eqb (a .high) (a .high))) (eqb-refl (a .start))
-    (and-intro (eqb (a .end) (a .end)) (eqb (a .low) (a .low) && eqb (a .high) (a .high)) (eqb-refl (a .end))
-    (and-intro (eqb (a .low) (a .low)) (eqb (a .high) (a .high)) (eqb-refl (a .low)) (eqb-refl (a .high)))))
+-- What same_fields finds is sameness, by the box, the row and the past: the first that differs tells.
+module _ (a b : Held) where
+  abbrev boxes : Bool
+  boxes = sameBox (a .extent) (b .extent)
 
--- For two marks of one name, the same bytes are the same box and the same row.
-pub known-by-row : (n : ℕ) (i : MarkId) (a b : MarkBox) (r s : ℕ → ℕ)
-    → Fit n (record { id = i; extent = a; stamp = entriesOfRow n r }) → Fit n (record { id = i; extent = b; stamp = entriesOfRow n s })
-    → sameBytes (frameOfMark n (record { id = i; extent = a; stamp = entriesOfRow n r })) (frameOfMark n (record { id = i; extent = b; stamp = entriesOfRow n s })) ≡ (sameBox a b && sameCounts n r s)
-known-by-row n i a b r s f g = bool-ext (sameBytes (frameOfMark n m) (frameOfMark n k)) (sameBox a b && sameCounts n r s) there back
-  where
-    m : Mark
-    m = record { id = i; extent = a; stamp = entriesOfRow n r }
+  abbrev rows : Bool
+  rows = sameCounts width (rowFn (a .row)) (rowFn (b .row))
 
-    k : Mark
-    k = record { id = i; extent = b; stamp = entriesOfRow n s }
+  abbrev counts : Bool
+  counts = sameCount (pastFrom (a .past)) (pastFrom (b .past))
 
-    there : T (sameBytes (frameOfMark n m) (frameOfMark n k)) → T (sameBox a b && sameCounts n r s)
-    there t =
-        let e : m ≡ k = equal-bytes n m (frameOfMark n k) f (same-bytes (frameOfMark n m) (frameOfMark n k) t) ∙ fit-back n k g in
-        and-intro (sameBox a b) (sameCounts n r s) (box-same a b (ap (λ (x : Mark). x .extent) e))
-        (counts-same n r s (λ d p q. sym (row-of-entries n r d p q) ∙ ap (λ (x : Mark). rowOf (x .stamp) d) e ∙ row-of-entries n s d p q))
+  by-parts : sameFields (heldMark a) (heldMark b) ≡ (boxes && (rows && counts))
+  unfolding sameFields
+  by-parts = ap (λ (x : Bool). boxes && (x && counts)) (entries-by-row width (rowFn (a .row)) (rowFn (b .row)))
 
-    back : T (sameBox a b && sameCounts n r s) → T (sameBytes (frameOfMark n m) (frameOfMark n k))
-    back t =
-        let x = same-box a b (and-fst (sameBox a b) (sameCounts n r s) t) in
-        let y = entries-cong n r s (same-counts n r s (and-snd (sameBox a b) (sameCounts n r s) t)) in
-        bytes-same (frameOfMark n m) (frameOfMark n k) (ap (frameOfMark n) (λ j. record { id = i; extent = x j; stamp = y j }))
+  pub box-differs : boxes ≡ false → false ≡ sameFields (heldMark a) (heldMark b)
+  box-differs e = sym (by-parts ∙ ap (λ (x : Bool). x && (rows && counts)) e)
+
+  pub row-differs : boxes ≡ true → rows ≡ false → false ≡ sameFields (heldMark a) (heldMark b)
+  row-differs e f = sym (by-parts ∙ (λ i. e i && (f i && counts)))
+
+  pub past-tells : boxes ≡ true → rows ≡ true → counts ≡ sameFields (heldMark a) (heldMark b)
+  past-tells e f = sym (by-parts ∙ (λ i. e i && (f i && counts)))

@@ -1,33 +1,65 @@
 -- What the code of Receive finds, test by test, is the judgement. Assumes nothing.
-use Prim.Native.Nat.{_+_, _-_, _<_, _≤_, ℕ}
+use Prim.Native.Nat.{_+_, _-_, _<_, _≤_, suc, zero, ℕ}
 use borrow.Author.Tests.{eq-eqb, ne-eqb}
 use lib.Dec.{T, eqb, ltb}
 use lib.ListN.{getD, length}
 use mathlib.Core.Bool.{Bool, _&&_, _||_, false, true}
 use mathlib.Core.List.{List, [], _++_, _∷_}
 use mathlib.Core.Option.{Option, none, some}
-use mathlib.Core.Path.{_∙_, _≡_, ap, refl, subst, sym}
+use mathlib.Core.Path.{_∙_, _≡_, ap, refl, sym}
+use native.Mathlib.Omega.{arith}
 use Rattle.rows.specs.declared.Held.{Held}
+use Rattle.frame.specs.declared.Past.the-variants.{Said, Unsaid}
 use Rattle.frame.specs.Mark.{MarkId, desks}
-use Rattle.causality.specs.Calls.{frameOfMark, full, sameBytes, unmade}
+use Rattle.causality.specs.Calls.{full, sameFields, unmade}
 use Rattle.causality.specs.Marks.{any, find, places, same, tally, waitingPlaces}
-use Rattle.causality.specs.State.{Mark, State, falseStamp, ids, markId, missing, ready}
+use Rattle.causality.specs.State.{Mark, State, falseStamp, ids, markId, missing, ready, reckoned}
 use Rattle.causality.proofs.Fit.{Fit}
 use Rattle.causality.proofs.Missing.{ready-missing}
 use Rattle.causality.proofs.Reach.{Sound, sound-counted}
-use Rattle.causality.proofs.RowLaws.{entriesOfRow}
-use Rattle.rows.specs.View.{boxAt, heldId, heldMark, markAt, placeAt, rowFn, sameCounts, width}
+use Rattle.rows.specs.View.{carriedAt, heldId, heldMark, markAt, pastFrom, placeAt, width}
 use Rattle.executed.specs.Arrays.{Arrays}
 use Rattle.waiting.specs.declared.Waiting.{Waiting}
 use Rattle.verdict.specs.Kept.{KeptIn, stateIn}
-use Rattle.verdict.specs.Judgement.{Tallies, admission, holds, judgement, knownIf, meeting, refuses, runs, sameBox, unmadeBy}
-use Rattle.rows.proofs.Arrays.{view-at}
+use Rattle.verdict.specs.Judgement.{Tallies, admission, holds, judgement, knownIf, meeting, pastKept, refuses, runs, unmadeBy}
 use Rattle.predecessors.specs.Steps.{missingBy}
 use Rattle.rows.proofs.ByRows.{row-at}
 use Rattle.predecessors.proofs.MissingLaws.{missing-by-tally}
-use Rattle.verdict.proofs.Invariant.{kept-fit, kept-own, kept-waiting-fit}
-use Rattle.verdict.proofs.Judged.{known-by-row, unmade-by-row}
+use Rattle.verdict.proofs.Invariant.{kept-own}
+use Rattle.verdict.proofs.Judged.{unmade-by-row}
 use Rattle.rows.proofs.Places.{found-none, found-some}
+
+-- What is said is not unsaid, and only 0 says nothing.
+unsaid-said : (n : ℕ) → Unsaid ≡ Said n → ⊥
+unsaid-said n e = let z : _≡_ {A = ℕ} 0 1 = cc in omega arith
+
+from-unsaid : (r : ℕ) → pastFrom r ≡ Unsaid → r ≡ 0
+from-unsaid zero e = refl
+from-unsaid (suc n) e = absurd (unsaid-said n (sym e))
+
+-- What was kept of the past of a ready mark tells whether its stamp is false.
+module _ (l : List Mark) (m : Mark) (r : ℕ) (e : pastFrom r ≡ pastKept l m) where
+  pub kept-none : r ≡ 0 → falseStamp l m ≡ true
+  kept-none z = go (falseStamp l m) refl (ap pastFrom (sym z) ∙ e)
+    where
+      go : (b : Bool) → falseStamp l m ≡ b → Unsaid ≡ pastKept l m → b ≡ true
+      go true q w = refl
+      go false q w = absurd (unsaid-said _ (rw (q, pastKept) at w))
+
+  pub kept-some : (r ≡ 0 → ⊥) → (falseStamp l m ≡ false) × (pastFrom r ≡ reckoned l m .past)
+  kept-some z = go (falseStamp l m) refl e
+    where
+      go : (b : Bool) → falseStamp l m ≡ b → pastFrom r ≡ pastKept l m → (b ≡ false) × (pastFrom r ≡ reckoned l m .past)
+      go true q w = absurd (z (from-unsaid r (rw (q, pastKept) at w)))
+      go false q w = (refl, rw (q, pastKept) at w)
+
+-- The readiness test, by the tally, yields x.
+module _ (l : List Mark) (h : Held) (t : List ℕ) (sound : Sound l) (f : Fit desks (heldMark h)) (ts : Tallies l t) (x : ℕ) (e : x ≡ missingBy width t (h .desk) (h .number .0) (h .row)) where
+  pub short-found : missing l (heldMark h) ≡ x
+  short-found = missing-by-tally width l (sound-counted l sound) t (h .row) ts (heldId h) (h .extent) (pastFrom (h .past)) (f .range .low) (f .range .high) ∙ sym e
+
+  pub ready-found : ready l (heldMark h) ≡ eqb x 0
+  ready-found = ready-missing l (heldMark h) ∙ ap (λ (k : ℕ). eqb k 0) short-found
 
 -- 9, 10, 11, by counts and tally.
 module _ (st : State) (h : Held) (t : List ℕ) (count waiting : ℕ) (long : length (st .executed) ≡ count) (many : length (st .waiting) ≡ waiting) (sound : Sound (st .executed))
@@ -46,23 +78,27 @@ module _ (st : State) (h : Held) (t : List ℕ) (count waiting : ℕ) (long : le
     room = full-test ∙ ne-eqb (count + waiting) places n
 
     short-test : missing (st .executed) (heldMark h) ≡ x
-    short-test = missing-by-tally width (st .executed) (sound-counted (st .executed) sound) t (h .row) ts (heldId h) (h .extent) (f .range .low) (f .range .high) ∙ sym e
+    short-test = short-found (st .executed) h t sound f ts x e
 
     ready-test : ready (st .executed) (heldMark h) ≡ eqb x 0
-    ready-test = ready-missing (st .executed) (heldMark h) ∙ ap (λ (k : ℕ). eqb k 0) short-test
+    ready-test = ready-found (st .executed) h t sound f ts x e
 
-    -- Ready; b is what the false-stamp test finds then.
-    module _ (z : x ≡ 0) (b : Bool) (g : T (ready (st .executed) (heldMark h)) → b ≡ falseStamp (st .executed) (heldMark h)) where
+    -- Ready; r is what the test of its stamp and the reckoning find then.
+    module _ (z : x ≡ 0) where
       is-ready : ready (st .executed) (heldMark h) ≡ true
       is-ready = ready-test ∙ eq-eqb x 0 z
 
-      pub admit-false : b ≡ true → refuses 11 ≡ admission st (heldMark h)
-      unfolding admission
-      admit-false s = rw (room, admission) (rw is-ready (rw (sym (g (rw is-ready tt)) ∙ s) refl))
+      module _ (r : ℕ) (g : T (ready (st .executed) (heldMark h)) → pastFrom r ≡ pastKept (st .executed) (heldMark h)) where
+        found : pastFrom r ≡ pastKept (st .executed) (heldMark h)
+        found = g (rw is-ready tt)
 
-      pub admit-runs : b ≡ false → runs ≡ admission st (heldMark h)
-      unfolding admission
-      admit-runs s = rw (room, admission) (rw is-ready (rw (sym (g (rw is-ready tt)) ∙ s) refl))
+        pub admit-false : r ≡ 0 → refuses 11 ≡ admission st (heldMark h)
+        unfolding admission
+        admit-false s = rw (room, admission) (rw is-ready (rw (kept-none (st .executed) (heldMark h) r found s) refl))
+
+        pub admit-runs : (r ≡ 0 → ⊥) → runs (pastFrom r) ≡ admission st (heldMark h)
+        unfolding admission
+        admit-runs s = let k = kept-some (st .executed) (heldMark h) r found s in rw (room, admission) (rw is-ready (rw (k .0) (ap runs (k .1))))
 
     -- Not ready.
     module _ (z : x ≡ 0 → ⊥) where
@@ -92,45 +128,37 @@ find-append i (x ∷ xs) ys = go (same i (x .id)) (find-append i xs ys)
     go true ih = refl
     go false ih = ih
 
-module _ (own : ℕ) (b : Arrays) (q : Waiting) (h : Held) (f : Fit desks (heldMark h)) where
-  abbrev bytes : List ℕ
-  bytes = frameOfMark desks (heldMark h)
-
-  -- A held mark a of the same name: the judgement is Known or 8 by boxes and rows.
-  meet-held : (a : Held) → Fit desks (heldMark a) → heldId a ≡ heldId h → find markId (heldId h) ((stateIn own b q) .executed ++ (stateIn own b q) .waiting) ≡ some (heldMark a)
-      → knownIf (sameBox (a .extent) (h .extent) && sameCounts width (rowFn (a .row)) (rowFn (h .row))) ≡ meeting (stateIn own b q) (heldMark h) (frameOfMark desks (heldMark h))
+module _ (own : ℕ) (b : Arrays) (q : Waiting) (h : Held) where
+  -- A held mark a of the same name: the judgement is Known or 8 by the fields.
+  meet-held : (a : Held) → find markId (heldId h) ((stateIn own b q) .executed ++ (stateIn own b q) .waiting) ≡ some (heldMark a)
+      → knownIf (sameFields (heldMark a) (heldMark h)) ≡ meeting (stateIn own b q) (heldMark h)
   unfolding meeting
-  meet-held a g e w = rw (w, meeting) (ap knownIf (sym (known-by-row width (heldId h) (a .extent) (h .extent) (rowFn (a .row)) (rowFn (h .row)) g′ f) ∙ ap (λ (i : MarkId). sameBytes (frameOfMark desks (record { id = i; extent = a .extent; stamp = entriesOfRow width (rowFn (a .row)) })) (frameOfMark desks (heldMark h))) (sym e)))
-    where
-      g′ : Fit width (record { id = heldId h; extent = a .extent; stamp = entriesOfRow width (rowFn (a .row)) })
-      g′ = subst (λ (i : MarkId). Fit desks (record { id = i; extent = a .extent; stamp = entriesOfRow width (rowFn (a .row)) })) e g
+  meet-held a w = rw (w, meeting) refl
 
   -- A mark found among the executed ones, or else among the waiting ones.
-  pub meet-executed : (k : KeptIn own b q) (p : ℕ) (a : Held) → p < b .count
-      → placeAt width (b .count) p (b .desks) (b .numbers) (boxAt (b .boxes)) (b .stamps) ≡ find markId (heldId h) ((stateIn own b q) .executed)
-      → heldMark a ≡ markAt width (b .desks) (b .numbers) (boxAt (b .boxes)) (b .stamps) p
-      → knownIf (sameBox (a .extent) (h .extent) && sameCounts width (rowFn (a .row)) (rowFn (h .row))) ≡ meeting (stateIn own b q) (heldMark h) (frameOfMark desks (heldMark h))
-  meet-executed k p a l e m =
-      let s = found-some width (b .desks) (b .numbers) (boxAt (b .boxes)) (b .stamps) (b .count) p (heldId h) l e in
-      let g = view-at width (Fit desks) (b .count) (b .desks) (b .numbers) (boxAt (b .boxes)) (b .stamps) (kept-fit own b q k) p l in
-      meet-held a (subst (Fit desks) (sym m) g) (ap (λ (x : Mark). x .id) m ∙ s .1)
+  pub meet-executed : (p : ℕ) (a : Held) → p < b .count
+      → placeAt width (b .count) p (b .desks) (b .numbers) (carriedAt (b .boxes) (b .pasts)) (b .stamps) ≡ find markId (heldId h) ((stateIn own b q) .executed)
+      → heldMark a ≡ markAt width (b .desks) (b .numbers) (carriedAt (b .boxes) (b .pasts)) (b .stamps) p
+      → knownIf (sameFields (heldMark a) (heldMark h)) ≡ meeting (stateIn own b q) (heldMark h)
+  meet-executed p a l e m =
+      let s = found-some width (b .desks) (b .numbers) (carriedAt (b .boxes) (b .pasts)) (b .stamps) (b .count) p (heldId h) l e in
+      meet-held a
       (find-append (heldId h) ((stateIn own b q) .executed) ((stateIn own b q) .waiting) ∙ ap (λ (o : Option Mark). orElse o (find markId (heldId h) ((stateIn own b q) .waiting))) (s .0 ∙ ap some (sym m)))
 
   module _ (n : find markId (heldId h) ((stateIn own b q) .executed) ≡ none) (i : ℕ)
-      (e : placeAt width (q .count) i (q .desks) (q .numbers) (boxAt (q .boxes)) (q .stamps) ≡ find markId (heldId h) ((stateIn own b q) .waiting)) where
+      (e : placeAt width (q .count) i (q .desks) (q .numbers) (carriedAt (q .boxes) (q .pasts)) (q .stamps) ≡ find markId (heldId h) ((stateIn own b q) .waiting)) where
     both : (o : Option Mark) → find markId (heldId h) ((stateIn own b q) .waiting) ≡ o → find markId (heldId h) ((stateIn own b q) .executed ++ (stateIn own b q) .waiting) ≡ o
     both o w = find-append (heldId h) ((stateIn own b q) .executed) ((stateIn own b q) .waiting) ∙ ap (λ (x : Option Mark). orElse x (find markId (heldId h) ((stateIn own b q) .waiting))) n ∙ w
 
-    pub meet-waiting : (k : KeptIn own b q) (a : Held) → i < q .count → heldMark a ≡ markAt width (q .desks) (q .numbers) (boxAt (q .boxes)) (q .stamps) i
-        → knownIf (sameBox (a .extent) (h .extent) && sameCounts width (rowFn (a .row)) (rowFn (h .row))) ≡ meeting (stateIn own b q) (heldMark h) (frameOfMark desks (heldMark h))
-    meet-waiting k a l m =
-        let s = found-some width (q .desks) (q .numbers) (boxAt (q .boxes)) (q .stamps) (q .count) i (heldId h) l e in
-        let g = view-at width (Fit desks) (q .count) (q .desks) (q .numbers) (boxAt (q .boxes)) (q .stamps) (kept-waiting-fit own b q k) i l in
-        meet-held a (subst (Fit desks) (sym m) g) (ap (λ (x : Mark). x .id) m ∙ s .1) (both (some (heldMark a)) (s .0 ∙ ap some (sym m)))
+    pub meet-waiting : (a : Held) → i < q .count → heldMark a ≡ markAt width (q .desks) (q .numbers) (carriedAt (q .boxes) (q .pasts)) (q .stamps) i
+        → knownIf (sameFields (heldMark a) (heldMark h)) ≡ meeting (stateIn own b q) (heldMark h)
+    meet-waiting a l m =
+        let s = found-some width (q .desks) (q .numbers) (carriedAt (q .boxes) (q .pasts)) (q .stamps) (q .count) i (heldId h) l e in
+        meet-held a (both (some (heldMark a)) (s .0 ∙ ap some (sym m)))
 
-    pub meet-none : q .count ≤ i → admission (stateIn own b q) (heldMark h) ≡ meeting (stateIn own b q) (heldMark h) (frameOfMark desks (heldMark h))
+    pub meet-none : q .count ≤ i → admission (stateIn own b q) (heldMark h) ≡ meeting (stateIn own b q) (heldMark h)
     unfolding meeting
-    meet-none l = rw (both none (found-none width (q .desks) (q .numbers) (boxAt (q .boxes)) (q .stamps) (q .count) i (heldId h) l e .0), meeting) refl
+    meet-none l = rw (both none (found-none width (q .desks) (q .numbers) (carriedAt (q .boxes) (q .pasts)) (q .stamps) (q .count) i (heldId h) l e .0), meeting) refl
 
 -- 7
 
@@ -144,10 +172,10 @@ module _ (own : ℕ) (b : Arrays) (q : Waiting) (h : Held) (k : KeptIn own b q) 
       let e = sym (kept-tallies (own) (o .0) (o .1)) in
       unmade-by-row width (stateIn own b q) (h .row) (o .0) (o .1) (heldId h) ∙ (λ i. (eqb (h .desk) (own) && ltb (e i) (h .number .0)) || ltb (e i) (getD (h .row) (own - 1) 0))
 
-  pub judge-unmade : unmadeBy (b .tally) (own) h ≡ true → refuses 7 ≡ judgement (stateIn own b q) (heldMark h) (frameOfMark desks (heldMark h))
+  pub judge-unmade : unmadeBy (b .tally) (own) h ≡ true → refuses 7 ≡ judgement (stateIn own b q) (heldMark h)
   unfolding judgement
   judge-unmade e = rw (unmade-test ∙ e, judgement) refl
 
-  pub judge-made : unmadeBy (b .tally) (own) h ≡ false → meeting (stateIn own b q) (heldMark h) (frameOfMark desks (heldMark h)) ≡ judgement (stateIn own b q) (heldMark h) (frameOfMark desks (heldMark h))
+  pub judge-made : unmadeBy (b .tally) (own) h ≡ false → meeting (stateIn own b q) (heldMark h) ≡ judgement (stateIn own b q) (heldMark h)
   unfolding judgement
   judge-made e = rw (unmade-test ∙ e, judgement) refl

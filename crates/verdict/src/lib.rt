@@ -1,13 +1,13 @@
 // What Receive finds of a mark, over lent arrays: conditions 7 to 11, Known, or what is to be done.
 ghost use mathlib.Core.Path.{_≡_};
-ghost use mathlib.Core.Bool.{_&&_};
 ghost use Prim.Native.Nat.{_+_, _≤_};
 ghost use Rattle.causality.specs.Marks.{places};
-ghost use Rattle.causality.specs.Calls.{frameOfMark};
+ghost use Rattle.causality.specs.Calls.{sameBox, sameFields};
+ghost use Rattle.causality.specs.State.{sameCount};
 ghost use Rattle.causality.proofs.Fit.{Fit};
-ghost use Rattle.rows.specs.View.{width, rowFn, Named, heldMark, sameCounts};
+ghost use Rattle.rows.specs.View.{width, Named, heldMark, pastFrom};
 ghost use Rattle.waiting.specs.Queue.{queueOf};
-ghost use Rattle.verdict.specs.Judgement.{sameBox, verdictOf, knownIf, judgement, unmadeBy, Asked, FalseIf, AdmittedBy, Judges, lentState};
+ghost use Rattle.verdict.specs.Judgement.{verdictOf, knownIf, judgement, unmadeBy, Asked, NewIn, ReadyIn, Reckons, AdmittedBy, Judges, lentState};
 use causality::MarkId;
 use causality::Place;
 use frame::MarkBox;
@@ -18,12 +18,13 @@ use rows::PLACES;
 use rows::WIDTH;
 use waiting::WAITING;
 
-// What Receive finds of a mark: a refusal, or what it does. In Waits, how many marks are missing.
+// What Receive finds of a mark: a refusal, or what it does. In Waits, how many marks are missing; in Runs, one more than how many marks precede it,
+// which is what a desk keeps of its past.
 pub enum Verdict {
     Refused(Refusal),
     Known,
     Waits(u16),
-    Runs,
+    Runs(u16),
 }
 
 fn same_box(a: MarkBox, b: MarkBox) -> bool
@@ -41,8 +42,22 @@ fn same_box(a: MarkBox, b: MarkBox) -> bool
     a.high == b.high
 }
 
-fn same_mark(a: Held, b: Held) -> bool
-    ensures { λ r. ⌜ r ≡ (sameBox (a .extent) (b .extent) && sameCounts width (rowFn (a .row)) (rowFn (b .row))) ⌝ }
+// Do two say the same of a past, where both say something?
+fn same_past(a: u16, b: u16) -> bool
+    ensures { λ r. ⌜ r ≡ sameCount (pastFrom a) (pastFrom b) ⌝ }
+{
+    if a == 0 {
+        return true;
+    }
+    if b == 0 {
+        return true;
+    }
+    a == b
+}
+
+// Are the fields of two marks of one name the same?
+pub fn same_fields(a: Held, b: Held) -> bool
+    ensures { λ r. ⌜ r ≡ sameFields (heldMark a) (heldMark b) ⌝ }
 {
     let one = a.extent;
     let other = b.extent;
@@ -51,7 +66,10 @@ fn same_mark(a: Held, b: Held) -> bool
     }
     let row = a.row;
     let counts = b.row;
-    rows::same_counts(row, counts)
+    if !rows::same_counts(row, counts) {
+        return false;
+    }
+    same_past(a.past, b.past)
 }
 
 // 7, by the tally: the mark, or an entry, is of this desk and not yet made.
@@ -85,31 +103,43 @@ fn asked(mut row: [u16; WIDTH], desk: u8, number: u16) -> [u16; WIDTH]
     row
 }
 
-// The false-stamp test of a ready mark. The trace stops at the oldest of the marks whose standing matters.
-pub fn is_false<'a>(
+// Of a ready mark: 0 where its stamp is false, else one more than the reckoning, how many marks precede it. The trace goes on to the oldest of the
+// marks whose standing matters, and then until its row is final.
+pub fn reckon<'a>(
     desks: &'a [u8; PLACES],
     numbers: &'a [u16; PLACES],
     stamps: &'a [u16; PLACES * WIDTH],
+    tally: &'a [u16; WIDTH],
     count: usize,
     h: Held,
-) -> bool
-    requires { ⌜ (count ≤ places) × Named width count (now desks) × (1 ≤ h .desk) × (h .desk ≤ width) ⌝ }
-    ensures { λ r. ⌜ FalseIf count (now (desks .entry)) (now (numbers .entry)) (now (stamps .entry)) h r ⌝ }
+) -> u16
+    requires { ⌜ (count ≤ places) × Named width count (now desks) × Fit width (heldMark h)
+        × ReadyIn (now tally) count (now desks) (now numbers) (now stamps) h ⌝ }
+    ensures { λ r. ⌜ Reckons count (now (desks .entry)) (now (numbers .entry)) (now (stamps .entry)) h r ⌝ }
 {
     let row = h.row;
     let n = h.number;
     let to = predecessors::oldest(desks, numbers, asked(row, h.desk, n.0), count);
     let mut below = [0u16; WIDTH];
-    predecessors::trace(
+    let mut left = *tally;
+    predecessors::settle(
         desks,
         numbers,
         stamps,
         &row,
         &mut below,
+        &mut left,
         Place(count),
         Place(to),
     );
-    predecessors::false_stamp(row, below, h.desk, n.0)
+    if predecessors::false_stamp(row, below, h.desk, n.0) {
+        return 0;
+    }
+    let past = predecessors::total(row, below) + 1;
+    if !same_past(h.past, past) {
+        return 0;
+    }
+    past
 }
 
 // 9, 10, 11, by the tally; so many marks wait.
@@ -119,23 +149,26 @@ fn admit<'a>(
     stamps: &'a [u16; PLACES * WIDTH],
     count: usize,
     waiting: usize,
-    tally: [u16; WIDTH],
+    tally: &'a [u16; WIDTH],
     h: Held,
 ) -> Verdict
-    requires { ⌜ (count + waiting ≤ places) × Named width count (now desks) × Fit width (heldMark h) ⌝ }
-    ensures { λ r. ⌜ AdmittedBy tally count (now (desks .entry)) (now (numbers .entry)) (now (stamps .entry)) waiting h r ⌝ }
+    requires { ⌜ (count + waiting ≤ places) × Named width count (now desks) × Fit width (heldMark h)
+        × NewIn (now tally) count (now desks) (now numbers) (now stamps) h ⌝ }
+    ensures { λ r. ⌜ AdmittedBy (now (tally .entry)) count (now (desks .entry)) (now (numbers .entry)) (now (stamps .entry)) waiting h r ⌝ }
 {
     let n = h.number;
     let row = h.row;
     if count + waiting == PLACES {
         return Verdict::Refused(Refusal::DeskFull);
     }
-    let short = predecessors::missing(tally, h.desk, n.0, row);
+    let made = *tally;
+    let short = predecessors::missing(made, h.desk, n.0, row);
     if short == 0 {
-        if is_false(desks, numbers, stamps, count, h) {
+        let past = reckon(desks, numbers, stamps, tally, count, h);
+        if past == 0 {
             return Verdict::Refused(Refusal::FalseStamp);
         }
-        return Verdict::Runs;
+        return Verdict::Runs(past);
     }
     if waiting == WAITING {
         return Verdict::Refused(Refusal::WaitingFull);
@@ -145,12 +178,12 @@ fn admit<'a>(
 
 // Of a mark of the same name: Known, or 8.
 fn known(a: Held, b: Held) -> Verdict
-    ensures { λ r. ⌜ verdictOf r ≡ knownIf (sameBox (a .extent) (b .extent) && sameCounts width (rowFn (a .row)) (rowFn (b .row))) ⌝ }
+    ensures { λ r. ⌜ verdictOf r ≡ knownIf (sameFields (heldMark a) (heldMark b)) ⌝ }
 {
-    if same_mark(a, b) {
+    if same_fields(a, b) {
         return Verdict::Known;
     }
-    Verdict::Refused(Refusal::OtherBytes)
+    Verdict::Refused(Refusal::OtherFields)
 }
 
 // 7; Known or 8 of a mark that is executed or waiting; else the above.
@@ -160,6 +193,7 @@ pub fn judge<'a>(
     desks: &'a [u8; PLACES],
     numbers: &'a [u16; PLACES],
     boxes: &'a [u32; PLACES * BOX],
+    pasts: &'a [u16; PLACES],
     stamps: &'a [u16; PLACES * WIDTH],
     tally: &'a [u16; WIDTH],
     last: &'a [u16; WIDTH],
@@ -168,15 +202,15 @@ pub fn judge<'a>(
     wdesks: &'a [u8; WAITING],
     wnumbers: &'a [u16; WAITING],
     wboxes: &'a [u32; WAITING * BOX],
+    wpasts: &'a [u16; WAITING],
     wstamps: &'a [u16; WAITING * WIDTH],
     h: Held,
 ) -> Verdict
-    requires { ⌜ Judges own count (now desks) (now numbers) (now boxes) (now stamps) (now tally) (now last) (now before)
-        (queueOf waiting (now wdesks) (now wnumbers) (now wboxes) (now wstamps)) × Fit width (heldMark h) ⌝ }
+    requires { ⌜ Judges own count (now desks) (now numbers) (now boxes) (now pasts) (now stamps) (now tally) (now last) (now before)
+        (queueOf waiting (now wdesks) (now wnumbers) (now wboxes) (now wpasts) (now wstamps)) × Fit width (heldMark h) ⌝ }
     ensures { λ r. ⌜ verdictOf r
-        ≡ judgement (lentState own count (now (desks .entry)) (now (numbers .entry)) (now (boxes .entry)) (now (stamps .entry))
-        (queueOf waiting (now (wdesks .entry)) (now (wnumbers .entry)) (now (wboxes .entry)) (now (wstamps .entry))))
-        (heldMark h) (frameOfMark width (heldMark h)) ⌝ }
+        ≡ judgement (lentState own count (now (desks .entry)) (now (numbers .entry)) (now (boxes .entry)) (now (pasts .entry)) (now (stamps .entry))
+        (queueOf waiting (now (wdesks .entry)) (now (wnumbers .entry)) (now (wboxes .entry)) (now (wpasts .entry)) (now (wstamps .entry)))) (heldMark h) ⌝ }
 {
     let n = h.number;
     let made = *tally;
@@ -189,11 +223,14 @@ pub fn judge<'a>(
     };
     let p = executed::find(tally, last, before, i);
     if p < PLACES {
-        return known(rows::mark_at(desks, numbers, boxes, stamps, p), h);
+        return known(rows::mark_at(desks, numbers, boxes, pasts, stamps, p), h);
     }
     let s = waiting::find(wdesks, wnumbers, waiting, h.desk, n.0);
     if s < waiting {
-        return known(rows::mark_at(wdesks, wnumbers, wboxes, wstamps, s), h);
+        return known(
+            rows::mark_at(wdesks, wnumbers, wboxes, wpasts, wstamps, s),
+            h,
+        );
     }
-    admit(desks, numbers, stamps, count, waiting, made, h)
+    admit(desks, numbers, stamps, count, waiting, tally, h)
 }

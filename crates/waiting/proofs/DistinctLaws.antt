@@ -5,17 +5,15 @@ use mathlib.Core.Bool.{Bool, _||_, false, true}
 use mathlib.Core.List.{List, [], _++_, _∷_}
 use mathlib.Core.Option.{Option, none, some}
 use mathlib.Core.Path.{_∙_, _≡_, ap, refl, sym}
-use Rattle.frame.specs.declared.Fields.{Fields}
 use Rattle.frame.specs.declared.MarkBox.{MarkBox}
 use Rattle.frame.specs.Answer.{Answer, gives, refused}
-use Rattle.frame.specs.Frame.{edition, readFields}
 use Rattle.frame.specs.Mark.{MarkId, isDesk}
 use Rattle.causality.specs.Answers.{Numbered}
-use Rattle.causality.specs.Calls.{Created, FromCalls, Received, created, empty, execute, executing, ifRead, mark, markAnswer, markIn, marked, new, newMark, receive, receiveMark, received, refuse, release, stateIf}
+use Rattle.causality.specs.Calls.{Created, FromCalls, Received, created, empty, execute, executing, mark, markAnswer, markIn, marked, new, newMark, receive, received, release, stateIf}
 use Rattle.causality.specs.Marks.{find, has, lowest, same, without}
-use Rattle.causality.specs.State.{Mark, State, falseStamp, ids, markId, ready}
+use Rattle.causality.specs.State.{Mark, State, falseStamp, ids, markId, ready, reckoned}
 use Rattle.causality.proofs.Lists.{find-has, has-append, ids-append, isSome}
-use Rattle.causality.proofs.Cases.{ReceiveCase, executes, receive-case, stays, waits}
+use Rattle.causality.proofs.Cases.{ReceiveCase, executes, received-case, stays, waits}
 use Rattle.waiting.specs.Queue.{Distinct}
 use Rattle.waiting.proofs.ListLaws.{or-fst, or-snd}
 
@@ -46,29 +44,24 @@ distinct-release (suc turns) l ws k f d = go (lowest markId (ready l) ws) refl (
       where
         by : (c : Bool) → falseStamp l w ≡ c → Distinct ((release (suc turns) l ws k f) .waiting)
         by true q = rw (e, release) (rw q (ih l (without markId (w .id) ws) k (suc f) (distinct-without (w .id) ws d)))
-        by false q = rw (e, release) (rw q (ih (w ∷ l) (without markId (w .id) ws) (suc k) f (distinct-without (w .id) ws d)))
+        by false q = rw (e, release) (rw q (ih (reckoned l w ∷ l) (without markId (w .id) ws) (suc k) f (distinct-without (w .id) ws d)))
 
 -- A name that is not found is none of the later ones.
 absent : (a : MarkId) (xs ys : List Mark) → find markId a (xs ++ ys) ≡ none → has a (ids ys) ≡ false
 absent a xs ys e = or-snd (has a (ids xs)) (has a (ids ys)) (sym (has-append a (ids xs) (ids ys)) ∙ ap (has a) (sym (ids-append xs ys)) ∙ find-has a (xs ++ ys) ∙ ap isSome e)
 
 module _ (N : ℕ) where
-  distinct-mark : (st : State) (m : Mark) (s : List ℕ) → Distinct (st .waiting) → Distinct ((receiveMark N st m s) .state .waiting)
+  distinct-receive : (st : State) (s : List ℕ) → Distinct (st .waiting) → Distinct ((receive N st s) .state .waiting)
   unfolding executing
-  distinct-mark st m s d = go (receive-case N st m s)
+  distinct-receive st s d = go (received-case N st s)
     where
+      m : Mark
+      m = markIn N s
+
       go : {x : Received} → ReceiveCase st m x → Distinct (x .state .waiting)
       go (stays a z) = d
       go (waits a b c n p) = (absent (m .id) (st .executed) (st .waiting) (a .absent), d)
-      go (executes a b c) = distinct-release (length (st .waiting)) (m ∷ st .executed) (st .waiting) 1 0 d
-
-  distinct-receive : (st : State) (s : List ℕ) → Distinct (st .waiting) → Distinct ((receive N st s) .state .waiting)
-  unfolding receive refuse
-  distinct-receive st s d = go (readFields (edition N) s)
-    where
-      go : (a : Answer Fields) → Distinct ((ifRead a st (receiveMark N st (markIn N s) s)) .state .waiting)
-      go (gives f) = distinct-mark st (markIn N s) s d
-      go (refused c) = d
+      go (executes a b c) = distinct-release (length (st .waiting)) (reckoned (st .executed) m ∷ st .executed) (st .waiting) 1 0 d
 
   distinct-marked : (st : State) (b : MarkBox) (out : List ℕ) → Distinct (st .waiting) → Distinct ((mark N st b out) .state .waiting)
   unfolding mark

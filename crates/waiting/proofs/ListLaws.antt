@@ -8,11 +8,10 @@ use mathlib.Core.Path.{_∙_, _≡_, ap, refl, subst, sym}
 use native.Mathlib.Nat.{eq-or-lt-of-le}
 use native.Mathlib.Omega.{arith}
 use Rattle.frame.specs.Mark.{MarkId}
-use Rattle.frame.specs.declared.MarkBox.{MarkBox}
 use Rattle.causality.specs.Marks.{has, same, without}
 use Rattle.causality.specs.State.{Mark, ids, markId}
 use Rattle.causality.proofs.Logic.{T→eq, bool-ext, same-refl, same→eq}
-use Rattle.rows.specs.View.{markAt, view}
+use Rattle.rows.specs.View.{Carried, markAt, view}
 use Rattle.waiting.specs.Queue.{Distinct, takenOut}
 
 -- The marks of the first so many slots, newest first.
@@ -20,7 +19,7 @@ abbrev pub listOf : (ℕ → Mark) → ℕ → List Mark
 listOf m zero = []
 listOf m (suc p) = m p ∷ listOf m p
 
-pub view-list : (n k : ℕ) (ds ns : List ℕ) (bs : ℕ → MarkBox) (ss : List ℕ) → view n k ds ns bs ss ≡ listOf (markAt n ds ns bs ss) k
+pub view-list : (n k : ℕ) (ds ns : List ℕ) (bs : ℕ → Carried) (ss : List ℕ) → view n k ds ns bs ss ≡ listOf (markAt n ds ns bs ss) k
 unfolding view
 view-list n zero ds ns bs ss = refl
 view-list n (suc k) ds ns bs ss = ap (λ (xs : List Mark). markAt n ds ns bs ss k ∷ xs) (view-list n k ds ns bs ss)
@@ -85,14 +84,14 @@ module _ (m : ℕ → Mark) where
         rw z (λ j. e j ∷ r j)) (eq-or-lt-of-le {n = i} {m = suc k} l)
 
 -- The same of arrays: slot i is gone from those after.
-pub view-taken : (n i last : ℕ) (ds ns : List ℕ) (bs : ℕ → MarkBox) (ss ds′ ns′ : List ℕ) (bs′ : ℕ → MarkBox) (ss′ : List ℕ) → i ≤ last
+pub view-taken : (n i last : ℕ) (ds ns : List ℕ) (bs : ℕ → Carried) (ss ds′ ns′ : List ℕ) (bs′ : ℕ → Carried) (ss′ : List ℕ) → i ≤ last
     → ((p : ℕ) → p < i → markAt n ds′ ns′ bs′ ss′ p ≡ markAt n ds ns bs ss p) → ((p : ℕ) → i ≤ p → p < last → markAt n ds′ ns′ bs′ ss′ p ≡ markAt n ds ns bs ss (suc p))
     → view n last ds′ ns′ bs′ ss′ ≡ takenOut (last - i) (view n (suc last) ds ns bs ss)
 view-taken n i last ds ns bs ss ds′ ns′ bs′ ss′ l f g =
     view-list n last ds′ ns′ bs′ ss′ ∙ taken (markAt n ds ns bs ss) (markAt n ds′ ns′ bs′ ss′) i last l f g ∙ ap (takenOut (last - i)) (sym (view-list n (suc last) ds ns bs ss))
 
 -- It goes by its name.
-pub view-without : (n i last : ℕ) (ds ns : List ℕ) (bs : ℕ → MarkBox) (ss : List ℕ) → i ≤ last → Distinct (view n (suc last) ds ns bs ss)
+pub view-without : (n i last : ℕ) (ds ns : List ℕ) (bs : ℕ → Carried) (ss : List ℕ) → i ≤ last → Distinct (view n (suc last) ds ns bs ss)
     → takenOut (last - i) (view n (suc last) ds ns bs ss) ≡ without markId ((markAt n ds ns bs ss i) .id) (view n (suc last) ds ns bs ss)
 view-without n i last ds ns bs ss l d =
     let v = view-list n (suc last) ds ns bs ss in

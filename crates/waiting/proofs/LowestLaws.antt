@@ -11,10 +11,9 @@ use mathlib.Core.Path.{_∙_, _≡_, ap, refl, sym}
 use native.Mathlib.Numerals.{add-one}
 use native.Mathlib.Omega.{arith}
 use Rattle.frame.specs.Mark.{MarkId}
-use Rattle.frame.specs.declared.MarkBox.{MarkBox}
 use Rattle.causality.specs.Marks.{lower, lowest}
 use Rattle.causality.specs.State.{Mark, markId, ready}
-use Rattle.rows.specs.View.{Named, markAt, placeAt, rowAt, rowFn, view}
+use Rattle.rows.specs.View.{Carried, Named, markAt, placeAt, rowAt, rowFn, view}
 use Rattle.predecessors.specs.Steps.{missingBy}
 use Rattle.rows.proofs.ByRows.{entries-cong}
 use Rattle.predecessors.proofs.MissingLaws.{ready-by-tally}
@@ -54,21 +53,21 @@ module _ (count : ℕ) (m : ℕ → Mark) where
 
 module _ (n count : ℕ) (ds ns ss t : List ℕ) where
   -- The readiness of slot i, by the tally and a copy of its row.
-  ready-slot : (l : List Mark) (bs : ℕ → MarkBox) (row : List ℕ) (i : ℕ) → TallyOf n l t → Named n count ds → i < count
+  ready-slot : (l : List Mark) (bs : ℕ → Carried) (row : List ℕ) (i : ℕ) → TallyOf n l t → Named n count ds → i < count
       → ((j : ℕ) → j < n → getD row j 0 ≡ getD ss (i * n + j) 0)
       → ready l (markAt n ds ns bs ss i) ≡ eqb (missingBy n t (getD ds i 0) (getD ns i 0) row) 0
   ready-slot l bs row i ts d h r =
       let f = named-at n count ds i d h in
       let e = entries-cong n (rowAt n ss i) (rowFn row) (λ x lo hi. sym (r (x - 1) (omega arith))) in
-      ap (λ (es : List MarkId). ready l (record { id = named (getD ds i 0) (getD ns i 0); extent = bs i; stamp = es })) e
-      ∙ ready-by-tally n l (ts .counted) t row (ts .tallied) (named (getD ds i 0) (getD ns i 0)) (bs i) (f .0) (f .1)
+      ap (λ (es : List MarkId). ready l (record { id = named (getD ds i 0) (getD ns i 0); extent = bs i .extent; stamp = es; past = bs i .past })) e
+      ∙ ready-by-tally n l (ts .counted) t row (ts .tallied) (named (getD ds i 0) (getD ns i 0)) (bs i .extent) (bs i .past) (f .0) (f .1)
 
   -- b is the slot of the one to execute of the first i, and low its desk, or the count and a desk that none is above.
   pub record Lowering (b low i : ℕ) : Type 0 where
     pub turns : i ≤ count
     pub few : b ≤ count
     pub desk : ((count ≤ b) × (n ≤ low)) ⊎ ((b < count) × (getD ds b 0 ≡ low))
-    pub chosen : (l : List Mark) (bs : ℕ → MarkBox) → TallyOf n l t → slotOf count (markAt n ds ns bs ss) b ≡ lowest markId (ready l) (listOf (markAt n ds ns bs ss) i)
+    pub chosen : (l : List Mark) (bs : ℕ → Carried) → TallyOf n l t → slotOf count (markAt n ds ns bs ss) b ≡ lowest markId (ready l) (listOf (markAt n ds ns bs ss) i)
 
   pub lowering-none : (low : ℕ) → n ≤ low → Lowering count low 0
   lowering-none low m = record {
@@ -80,7 +79,7 @@ module _ (n count : ℕ) (ds ns ss t : List ℕ) where
 
   module _ (b low i b′ low′ : ℕ) (row : List ℕ) (r : ℕ) (w : Lowering b low i) (h : i < count) (d : Named n count ds) (c : (j : ℕ) → j < n → getD row j 0 ≡ getD ss (i * n + j) 0)
       (e : r ≡ missingBy n t (getD ds i 0) (getD ns i 0) row) where
-    by : (x : Bool) → eqb r 0 ≡ x → (l : List Mark) (bs : ℕ → MarkBox) → TallyOf n l t → ready l (markAt n ds ns bs ss i) ≡ x
+    by : (x : Bool) → eqb r 0 ≡ x → (l : List Mark) (bs : ℕ → Carried) → TallyOf n l t → ready l (markAt n ds ns bs ss i) ≡ x
     by x q l bs ts = ready-slot l bs row i ts d h c ∙ ap (λ (k : ℕ). eqb k 0) (sym e) ∙ q
 
     pub lowering-taken : r ≡ 0 → getD ds i 0 ≤ low → b′ ≡ i → low′ ≡ getD ds i 0 → Lowering b′ low′ (i + 1)
@@ -111,7 +110,7 @@ module _ (n count : ℕ) (ds ns ss t : List ℕ) where
       chosen = λ l bs ts. chosen-passed count (markAt n ds ns bs ss) (ready l) b i (w .chosen l bs ts) (by false (ne-eqb r 0 q) l bs ts);
     })
 
-  pub lowering-all : (b low i : ℕ) → Lowering b low i → count ≤ i → (l : List Mark) (bs : ℕ → MarkBox) → TallyOf n l t → placeAt n count b ds ns bs ss ≡ lowest markId (ready l) (view n count ds ns bs ss)
+  pub lowering-all : (b low i : ℕ) → Lowering b low i → count ≤ i → (l : List Mark) (bs : ℕ → Carried) → TallyOf n l t → placeAt n count b ds ns bs ss ≡ lowest markId (ready l) (view n count ds ns bs ss)
   unfolding placeAt
   lowering-all b low i w h l bs ts =
       let o = w .turns in

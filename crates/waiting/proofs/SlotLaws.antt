@@ -12,13 +12,13 @@ use native.Mathlib.Omega.{arith}
 use Rattle.frame.specs.declared.MarkBox.{MarkBox}
 use Rattle.causality.specs.Marks.{waitingPlaces}
 use Rattle.causality.proofs.Logic.{split}
-use Rattle.rows.specs.View.{SameOutside, ZeroFrom, boxAt, markAt, noBox, rowAt, view, width}
-use Rattle.rows.specs.Steps.{Stored}
+use Rattle.rows.specs.View.{SameOutside, ZeroFrom, boxAt, carriedAt, markAt, noBox, pastFrom, rowAt, view, width}
+use Rattle.rows.specs.Steps.{HasSlot, Stored}
 use Rattle.rows.specs.declared.Held.{Held}
 use Rattle.rows.proofs.Arrays.{SameBelow, view-same}
 use Rattle.rows.proofs.ByRows.{entries-cong}
-use Rattle.rows.proofs.Slots.{row-fits, zeros}
-use Rattle.rows.proofs.Stores.{boxes-below, outside-none, outside-set}
+use Rattle.rows.proofs.Slots.{carried-below, has-slot, row-fits, zeros}
+use Rattle.rows.proofs.Stores.{outside-none, outside-set}
 use Rattle.waiting.specs.Queue.{Closed, Queued, Removed, queueOf, takenOut}
 use Rattle.waiting.proofs.ListLaws.{view-taken, view-without}
 
@@ -99,50 +99,65 @@ module _ (w i last : ℕ) (before after : List ℕ) (c : Closed w before after (
       c .moved (p * w + j) (omega arith) (omega arith) ∙ ap (λ (q : ℕ). getD before q 0) e
 
 -- So are the marks.
-module _ (n : ℕ) (ds ns bs ss ds′ ns′ bs′ ss′ : List ℕ) where
+module _ (n : ℕ) (ds ns bs ps ss ds′ ns′ bs′ ps′ ss′ : List ℕ) where
   same-mark : (p q : ℕ) → getD ds′ p 0 ≡ getD ds q 0 → getD ns′ p 0 ≡ getD ns q 0 → ((j : ℕ) → j < 4 → getD bs′ (p * 4 + j) 0 ≡ getD bs (q * 4 + j) 0)
-      → ((j : ℕ) → j < n → getD ss′ (p * n + j) 0 ≡ getD ss (q * n + j) 0) → markAt n ds′ ns′ (boxAt bs′) ss′ p ≡ markAt n ds ns (boxAt bs) ss q
-  same-mark p q d m b s =
+      → getD ps′ p 0 ≡ getD ps q 0 → ((j : ℕ) → j < n → getD ss′ (p * n + j) 0 ≡ getD ss (q * n + j) 0) → markAt n ds′ ns′ (carriedAt bs′ ps′) ss′ p ≡ markAt n ds ns (carriedAt bs ps) ss q
+  same-mark p q d m b c s =
       let x = rw (add-zero (p * 4), add-zero (q * 4)) at (b 0 (omega arith)) in
       let y = b 1 (omega arith) in
       let z = b 2 (omega arith) in
       let u = b 3 (omega arith) in
       let t = entries-cong n (rowAt n ss′ p) (rowAt n ss q) (λ k lo hi. s (k - 1) (omega arith)) in
-      λ k. record { id = record { desk = d k; number = m k }; extent = record { start = x k; end = y k; low = z k; high = u k }; stamp = t k }
+      λ k. record { id = record { desk = d k; number = m k }; extent = record { start = x k; end = y k; low = z k; high = u k }; stamp = t k; past = pastFrom (c k) }
 
-  module _ (i last : ℕ) (cd : Closed 1 ds ds′ i last) (cn : Closed 1 ns ns′ i last) (cb : Closed 4 bs bs′ (i * 4) (last * 4)) (cs : Closed n ss ss′ (i * n) (last * n)) where
-    closed-view : i ≤ last → view n last ds′ ns′ (boxAt bs′) ss′ ≡ takenOut (last - i) (view n (suc last) ds ns (boxAt bs) ss)
-    closed-view l = view-taken n i last ds ns (boxAt bs) ss ds′ ns′ (boxAt bs′) ss′ l
-        (λ p h. same-mark p p (cd .rest p (inl h)) (cn .rest p (inl h)) (λ j x. slot-below 4 i last bs bs′ cb p j x h) (λ j x. slot-below n i last ss ss′ cs p j x h))
+  module _ (i last : ℕ) (cd : Closed 1 ds ds′ i last) (cn : Closed 1 ns ns′ i last) (cb : Closed 4 bs bs′ (i * 4) (last * 4)) (cp : Closed 1 ps ps′ i last)
+      (cs : Closed n ss ss′ (i * n) (last * n)) where
+    closed-view : i ≤ last → view n last ds′ ns′ (carriedAt bs′ ps′) ss′ ≡ takenOut (last - i) (view n (suc last) ds ns (carriedAt bs ps) ss)
+    closed-view l = view-taken n i last ds ns (carriedAt bs ps) ss ds′ ns′ (carriedAt bs′ ps′) ss′ l
+        (λ p h. same-mark p p (cd .rest p (inl h)) (cn .rest p (inl h)) (λ j x. slot-below 4 i last bs bs′ cb p j x h) (cp .rest p (inl h)) (λ j x. slot-below n i last ss ss′ cs p j x h))
         (λ p a h. let e : p + 1 ≡ suc p = omega arith in
         same-mark p (suc p) (cd .moved p a h ∙ ap (λ (q : ℕ). getD ds q 0) e) (cn .moved p a h ∙ ap (λ (q : ℕ). getD ns q 0) e)
-        (λ j x. slot-above 4 i last bs bs′ cb p j x a h) (λ j x. slot-above n i last ss ss′ cs p j x a h))
+        (λ j x. slot-above 4 i last bs bs′ cb p j x a h) (cp .moved p a h ∙ ap (λ (q : ℕ). getD ps q 0) e) (λ j x. slot-above n i last ss ss′ cs p j x a h))
 
 -- THE MARK OF A SLOT GONE
 
 -- A mark stored in slot k leaves those below.
-stored-below : (k : ℕ) (h : Held) (ds ns bs ss ds′ ns′ bs′ ss′ : List ℕ) → Stored k h ds ns bs ss ds′ ns′ bs′ ss′ → SameBelow width k ds ns (boxAt bs) ss ds′ ns′ (boxAt bs′) ss′
-stored-below k h ds ns bs ss ds′ ns′ bs′ ss′ x = record {
+stored-below : (k : ℕ) (h : Held) (ds ns bs ps ss ds′ ns′ bs′ ps′ ss′ : List ℕ) → Stored k h ds ns bs ps ss ds′ ns′ bs′ ps′ ss′ → SameBelow width k ds ns (carriedAt bs ps) ss ds′ ns′ (carriedAt bs′ ps′) ss′
+stored-below k h ds ns bs ps ss ds′ ns′ bs′ ps′ ss′ x = record {
   desks = λ p l. rw (x .desks) (getD-set-other ds k p (h .desk) 0 (λ z. omega arith));
   numbers = λ p l. rw (x .numbers) (getD-set-other ns k p (h .number .0) 0 (λ z. omega arith));
-  boxes = boxes-below bs bs′ k (x .boxes);
+  boxes = λ p l. rw (x .pasts) (carried-below bs ps bs′ k (h .past) (x .boxes) p l);
   stamps = λ q l. x .stamps .same q (inl l);
 }
 
 -- Nothing, as a slot has it.
 abbrev none : Held
-none = record { desk = 0; number = record { 0 = 0 }; extent = noBox; row = replicate width 0 }
+none = record { desk = 0; number = record { 0 = 0 }; extent = noBox; past = 0; row = replicate width 0 }
+
+-- The last slot is still there when the gaps are closed.
+pub closed-slot : (i count last : ℕ) (ds ns bs ps ss md mn mb mp ms : List ℕ) → count ≡ last + 1 → Queued (queueOf count ds ns bs ps ss)
+    → Closed 1 ds md i last → Closed 1 ns mn i last → Closed 4 bs mb (i * 4) (last * 4) → Closed 1 ps mp i last → Closed width ss ms (i * width) (last * width)
+    → HasSlot last md mn mb mp ms
+closed-slot i count last ds ns bs ps ss md mn mb mp ms one u cd cn cb cp cs =
+    let f = u .few in
+    let s = has-slot waitingPlaces count last ds ns bs ps ss (u .slots) (omega arith) in record {
+      desks = rw (cd .long) (s .desks);
+      numbers = rw (cn .long) (s .numbers);
+      boxes = rw (cb .long) (s .boxes);
+      pasts = rw (cp .long) (s .pasts);
+      stamps = rw (cs .long) (s .stamps);
+    }
 
 -- Of count marks that of slot i is gone: the gap of each array is closed, and nothing is stored in the last slot.
-pub removed : (i count last : ℕ) (ds ns bs ss md mn mb ms ds′ ns′ bs′ ss′ : List ℕ) → count ≡ last + 1 → i < count → Queued (queueOf count ds ns bs ss)
-    → Closed 1 ds md i last → Closed 1 ns mn i last → Closed 4 bs mb (i * 4) (last * 4) → Closed width ss ms (i * width) (last * width)
-    → Stored last none md mn mb ms ds′ ns′ bs′ ss′ → Removed i (queueOf count ds ns bs ss) (queueOf last ds′ ns′ bs′ ss′)
-removed i count last ds ns bs ss md mn mb ms ds′ ns′ bs′ ss′ one l u cd cn cb cs x =
+pub removed : (i count last : ℕ) (ds ns bs ps ss md mn mb mp ms ds′ ns′ bs′ ps′ ss′ : List ℕ) → count ≡ last + 1 → i < count → Queued (queueOf count ds ns bs ps ss)
+    → Closed 1 ds md i last → Closed 1 ns mn i last → Closed 4 bs mb (i * 4) (last * 4) → Closed 1 ps mp i last → Closed width ss ms (i * width) (last * width)
+    → Stored last none md mn mb mp ms ds′ ns′ bs′ ps′ ss′ → Removed i (queueOf count ds ns bs ps ss) (queueOf last ds′ ns′ bs′ ps′ ss′)
+removed i count last ds ns bs ps ss md mn mb mp ms ds′ ns′ bs′ ps′ ss′ one l u cd cn cb cp cs x =
     let f = u .few in
     let s = u .slots in
     let b : i ≤ last = omega arith in
-    let v = view-same width last md mn (boxAt mb) ms ds′ ns′ (boxAt bs′) ss′ (stored-below last none md mn mb ms ds′ ns′ bs′ ss′ x)
-    ∙ closed-view width ds ns bs ss md mn mb ms i last cd cn cb cs b in
+    let v = view-same width last md mn (carriedAt mb mp) ms ds′ ns′ (carriedAt bs′ ps′) ss′ (stored-below last none md mn mb mp ms ds′ ns′ bs′ ps′ ss′ x)
+    ∙ closed-view width ds ns bs ps ss md mn mb mp ms i last cd cn cb cp cs b in
     record {
       one = one;
       queued = record {
@@ -150,10 +165,11 @@ removed i count last ds ns bs ss md mn mb ms ds′ ns′ bs′ ss′ one l u cd 
         slots = record {
           desks = rw (x .desks) (freed-one waitingPlaces count ds md i last (s .desks) (omega arith) (omega arith) cd);
           numbers = rw (x .numbers) (freed-one waitingPlaces count ns mn i last (s .numbers) (omega arith) (omega arith) cn);
+          pasts = rw (x .pasts) (freed-one waitingPlaces count ps mp i last (s .pasts) (omega arith) (omega arith) cp);
           boxes = freed 4 (waitingPlaces * 4) (count * 4) bs mb bs′ (i * 4) (last * 4) (s .boxes) (omega arith) cb (x .boxes) (box-zeros bs′ last (x .extent));
           stamps = freed width (waitingPlaces * width) (count * width) ss ms ss′ (i * width) (last * width) (s .stamps) (omega arith) cs (x .stamps) (λ j h. x .row j h ∙ zeros width j);
         };
       };
       others = rw (one, add-one last) v;
-      marks = rw (one, add-one last) (λ d. v ∙ view-without width i last ds ns (boxAt bs) ss b d);
+      marks = rw (one, add-one last) (λ d. v ∙ view-without width i last ds ns (carriedAt bs ps) ss b d);
     }

@@ -4,14 +4,13 @@ use borrow.Author.Tests.{le-ltb, lt-ltb}
 use mathlib.Core.List.{List}
 use mathlib.Core.Option.{Option, none, some}
 use mathlib.Core.Path.{_∙_, _≡_, refl, sym}
-use Rattle.frame.specs.declared.MarkBox.{MarkBox}
 use Rattle.causality.specs.Marks.{All}
 use Rattle.causality.specs.State.{Mark}
 use Rattle.causality.proofs.Fit.{Fit}
-use Rattle.rows.specs.View.{Named, markAt, placeAt, view}
+use Rattle.rows.specs.View.{Carried, Named, markAt, placeAt, view}
 use Rattle.rows.proofs.Arrays.{view-at}
 
-module _ (n count : ℕ) (ds ns : List ℕ) (bs : ℕ → MarkBox) (ss : List ℕ) where
+module _ (n count : ℕ) (ds ns : List ℕ) (bs : ℕ → Carried) (ss : List ℕ) where
   -- A slot below the count has the mark, and the count has none.
   pub slot-found : (p : ℕ) (o : Option Mark) → placeAt n count p ds ns bs ss ≡ o → p < count → o ≡ some (markAt n ds ns bs ss p)
   unfolding placeAt

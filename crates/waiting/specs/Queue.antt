@@ -8,40 +8,39 @@ use denote.Ref.{RefT}
 use denote.Triple.Both.{Both}
 use lib.ListN.{length, getD}
 use Rattle.frame.specs.Mark.{MarkId}
-use Rattle.frame.specs.declared.MarkBox.{MarkBox}
 use Rattle.causality.specs.Marks.{find, has, lowest, tally, waitingPlaces, without}
 use Rattle.causality.specs.State.{Mark, ids, markId, ready}
 use Rattle.causality.proofs.Past.{Counted}
-use Rattle.rows.specs.View.{Slots, boxAt, heldMark, placeAt, view, width}
+use Rattle.rows.specs.View.{Carried, Slots, carriedAt, heldMark, placeAt, view, width}
 use Rattle.rows.specs.declared.Held.{Held}
 use Rattle.waiting.specs.declared.Waiting.{Waiting}
 
 -- The waiting marks, newest first.
 abbrev pub waitingIn : Waiting → List Mark
-waitingIn q = view width (q .count) (q .desks) (q .numbers) (boxAt (q .boxes)) (q .stamps)
+waitingIn q = view width (q .count) (q .desks) (q .numbers) (carriedAt (q .boxes) (q .pasts)) (q .stamps)
 
 -- A queue in order: no more marks than slots, and zeros in those unused.
 pub record Queued (q : Waiting) : Type 0 where
   pub few : q .count ≤ waitingPlaces
-  pub slots : Slots waitingPlaces (q .count) (q .desks) (q .numbers) (q .boxes) (q .stamps)
+  pub slots : Slots waitingPlaces (q .count) (q .desks) (q .numbers) (q .boxes) (q .pasts) (q .stamps)
 
--- The queue of a count and four arrays.
-abbrev pub queueOf : ℕ → List ℕ → List ℕ → List ℕ → List ℕ → Waiting
-queueOf count ds ns bs ss = record { count = count; desks = ds; numbers = ns; boxes = bs; stamps = ss }
+-- The queue of a count and five arrays.
+abbrev pub queueOf : ℕ → List ℕ → List ℕ → List ℕ → List ℕ → List ℕ → Waiting
+queueOf count ds ns bs ps ss = record { count = count; desks = ds; numbers = ns; boxes = bs; pasts = ps; stamps = ss }
 
 -- What a contract has of a lent parameter: as found and as left.
 abbrev pub Lending : Type 0 → Type 0
 Lending A = Both (RefT A) (RefT A)
 
 -- The queue of lent arrays as they are, as found and as left.
-abbrev pub here : RefT ℕ → RefT (List ℕ) → RefT (List ℕ) → RefT (List ℕ) → RefT (List ℕ) → Waiting
-here count ds ns bs ss = queueOf (count .now) (ds .now) (ns .now) (bs .now) (ss .now)
+abbrev pub here : RefT ℕ → RefT (List ℕ) → RefT (List ℕ) → RefT (List ℕ) → RefT (List ℕ) → RefT (List ℕ) → Waiting
+here count ds ns bs ps ss = queueOf (count .now) (ds .now) (ns .now) (bs .now) (ps .now) (ss .now)
 
-abbrev pub found : Lending ℕ → Lending (List ℕ) → Lending (List ℕ) → Lending (List ℕ) → Lending (List ℕ) → Waiting
-found count ds ns bs ss = here (count .entry) (ds .entry) (ns .entry) (bs .entry) (ss .entry)
+abbrev pub found : Lending ℕ → Lending (List ℕ) → Lending (List ℕ) → Lending (List ℕ) → Lending (List ℕ) → Lending (List ℕ) → Waiting
+found count ds ns bs ps ss = here (count .entry) (ds .entry) (ns .entry) (bs .entry) (ps .entry) (ss .entry)
 
-abbrev pub left : Lending ℕ → Lending (List ℕ) → Lending (List ℕ) → Lending (List ℕ) → Lending (List ℕ) → Waiting
-left count ds ns bs ss = here (count .exit) (ds .exit) (ns .exit) (bs .exit) (ss .exit)
+abbrev pub left : Lending ℕ → Lending (List ℕ) → Lending (List ℕ) → Lending (List ℕ) → Lending (List ℕ) → Lending (List ℕ) → Waiting
+left count ds ns bs ps ss = here (count .exit) (ds .exit) (ns .exit) (bs .exit) (ps .exit) (ss .exit)
 
 -- The name d.n.
 abbrev pub named : ℕ → ℕ → MarkId
@@ -81,7 +80,7 @@ pub record Removed (i : ℕ) (q r : Waiting) : Type 0 where
 -- The slot of the mark of a name, or the count.
 pub record FoundAt (d n count : ℕ) (ds ns : List ℕ) (r : ℕ) : Type 0 where
   pub few : r ≤ count
-  pub mark : (bs : ℕ → MarkBox) (ss : List ℕ) → placeAt width count r ds ns bs ss ≡ find markId (named d n) (view width count ds ns bs ss)
+  pub mark : (bs : ℕ → Carried) (ss : List ℕ) → placeAt width count r ds ns bs ss ≡ find markId (named d n) (view width count ds ns bs ss)
 
 -- The tally of executed marks for n desks, each numbered behind those of its desk before it.
 pub record TallyOf (n : ℕ) (l : List Mark) (t : List ℕ) : Type 0 where
@@ -91,5 +90,5 @@ pub record TallyOf (n : ℕ) (l : List Mark) (t : List ℕ) : Type 0 where
 -- The slot of the ready mark of lowest desk, or the count, whatever marks are executed that have this tally.
 pub record LowestAt (t : List ℕ) (count : ℕ) (ds ns ss : List ℕ) (r : ℕ) : Type 0 where
   pub few : r ≤ count
-  pub mark : (l : List Mark) (bs : ℕ → MarkBox) → TallyOf width l t
+  pub mark : (l : List Mark) (bs : ℕ → Carried) → TallyOf width l t
       → placeAt width count r ds ns bs ss ≡ lowest markId (ready l) (view width count ds ns bs ss)

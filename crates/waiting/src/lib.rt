@@ -22,6 +22,7 @@ pub struct Waiting {
     pub desks: [u8; WAITING],
     pub numbers: [u16; WAITING],
     pub boxes: [u32; WAITING * BOX],
+    pub pasts: [u16; WAITING],
     pub stamps: [u16; WAITING * WIDTH],
 }
 
@@ -33,6 +34,7 @@ pub fn empty() -> Waiting
         desks: [0; WAITING],
         numbers: [0; WAITING],
         boxes: [0; WAITING * BOX],
+        pasts: [0; WAITING],
         stamps: [0; WAITING * WIDTH],
     }
 }
@@ -43,14 +45,15 @@ pub fn push(
     desks: &mut [u8; WAITING],
     numbers: &mut [u16; WAITING],
     boxes: &mut [u32; WAITING * BOX],
+    pasts: &mut [u16; WAITING],
     stamps: &mut [u16; WAITING * WIDTH],
     h: Held,
 )
-    requires { ⌜ Queued (here count desks numbers boxes stamps) × (now count < waitingPlaces) ⌝ }
-    ensures { λ _. ⌜ Pushed h (found count desks numbers boxes stamps) (left count desks numbers boxes stamps) ⌝ }
+    requires { ⌜ Queued (here count desks numbers boxes pasts stamps) × (now count < waitingPlaces) ⌝ }
+    ensures { λ _. ⌜ Pushed h (found count desks numbers boxes pasts stamps) (left count desks numbers boxes pasts stamps) ⌝ }
 {
     let at = *count;
-    rows::store(desks, numbers, boxes, stamps, at, h);
+    rows::store(desks, numbers, boxes, pasts, stamps, at, h);
     *count = at + 1;
 }
 
@@ -96,11 +99,12 @@ pub fn remove(
     desks: &mut [u8; WAITING],
     numbers: &mut [u16; WAITING],
     boxes: &mut [u32; WAITING * BOX],
+    pasts: &mut [u16; WAITING],
     stamps: &mut [u16; WAITING * WIDTH],
     i: usize,
 )
-    requires { ⌜ Queued (here count desks numbers boxes stamps) × (i < now count) ⌝ }
-    ensures { λ _. ⌜ Removed i (found count desks numbers boxes stamps) (left count desks numbers boxes stamps) ⌝ }
+    requires { ⌜ Queued (here count desks numbers boxes pasts stamps) × (i < now count) ⌝ }
+    ensures { λ _. ⌜ Removed i (found count desks numbers boxes pasts stamps) (left count desks numbers boxes pasts stamps) ⌝ }
 {
     let last = *count - 1;
     let none = Held {
@@ -112,13 +116,15 @@ pub fn remove(
             low: 0,
             high: 0,
         },
+        past: 0,
         row: [0; WIDTH],
     };
     close_desks(desks, i, last);
     close(numbers, i, last, 1);
     close_boxes(boxes, i * BOX, last * BOX);
+    close(pasts, i, last, 1);
     close(stamps, i * WIDTH, last * WIDTH, WIDTH);
-    rows::store(desks, numbers, boxes, stamps, last, none);
+    rows::store(desks, numbers, boxes, pasts, stamps, last, none);
     *count = last;
 }
 

@@ -5,10 +5,9 @@ use Prim.Native.Nat.{_-_, _≤_, ℕ}
 use lib.ListN.{getD}
 use borrow.Author.Needs.{needs}
 use native.Mathlib.Omega.{arith}
-use Rattle.frame.specs.declared.MarkBox.{MarkBox}
 use Rattle.causality.specs.Marks.{places}
 use Rattle.causality.proofs.Reach.{Sound}
-use Rattle.rows.specs.View.{view, width}
+use Rattle.rows.specs.View.{Carried, view, width}
 use Rattle.rows.proofs.RowSteps.{named-at, named-less}
 use Rattle.rows.proofs.Slots.{zero-all}
 use Rattle.queries.specs.Steps.{PastTold}
@@ -49,7 +48,7 @@ array-read-if3 c = omega (arith, in-range (c .before .before .before .before))
 
 -- The row tells of each mark if it is of the past.
 told : (c : tie.After-past Inv-loop μ-loop) → let a = c .before .args in
-    (bs : ℕ → MarkBox) → Sound (view width (a .count) (a .desks .now) (a .numbers .now) bs (a .stamps .now))
+    (bs : ℕ → Carried) → Sound (view width (a .count) (a .desks .now) (a .numbers .now) bs (a .stamps .now))
     → PastTold width (a .desks .now) (a .numbers .now) bs (a .stamps .now) (a .count) (a .p .0) (c .past .result)
 told c bs sound = let s = c .before in c .past .ensures (s .args .count) bs (s .pre .1) (s .pre .2) sound
 

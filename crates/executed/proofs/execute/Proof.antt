@@ -6,8 +6,8 @@ use Rattle.executed.proofs.execute.Tie as tie
 
 returns : tie.Need-returns
 returns c =
-    let s = c .before .before .before .before .before .before .before .before .before .before .before .before in
-    took _ (s .args .h) (s .pre) _ _ _ _ _ (c .before .before .before .store .ensures) (c .before .strike .ensures)
+    let s = c .before .before .before .before .before .before .before .before .before .before .before .before .before in
+    took _ (s .args .h) (s .pre) _ _ _ _ _ _ (c .before .before .before .store .ensures) (c .before .strike .ensures)
 
 pub execute-spec : {M : Type 1} → statement M
 execute-spec =

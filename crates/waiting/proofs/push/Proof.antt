@@ -8,12 +8,12 @@ use Rattle.waiting.proofs.push.Tie as tie
 
 returns : tie.Need-returns
 returns c =
-    let s = c .before .before .before .before .before .before in
+    let s = c .before .before .before .before .before .before .before in
     let x = c .store .ensures in
     record {
       one = refl;
-      queued = record { few = search needs; slots = stored-slots waitingPlaces _ (s .args .h) _ _ _ _ _ _ _ _ (s .pre .0 .slots) (s .pre .1) x };
-      marks = stored-view waitingPlaces _ (s .args .h) _ _ _ _ _ _ _ _ (s .pre .0 .slots) (s .pre .1) x;
+      queued = record { few = search needs; slots = stored-slots waitingPlaces _ (s .args .h) _ _ _ _ _ _ _ _ _ _ (s .pre .0 .slots) (s .pre .1) x };
+      marks = stored-view waitingPlaces _ (s .args .h) _ _ _ _ _ _ _ _ _ _ (s .pre .0 .slots) (s .pre .1) x;
     }
 
 pub push-spec : {M : Type 1} → statement M

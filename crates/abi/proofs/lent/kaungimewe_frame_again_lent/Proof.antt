@@ -16,8 +16,8 @@ returns c =
       answer = w .write-again .result;
       numbers = c .written .ensures;
       promise = λ own rest q k.
-          let st = stateIn own (againLent (a .desks) (a .numbers) (a .boxes) (a .stamps) (a .tally) (a .last) (a .before) rest) q in
-          let p = subst (λ (x : MarkId). AgainIn st x (a .out .now) (w .write-again .last .1 .1 .1 .1 .1 .1 .1 .1 .0) (w .write-again .result)) (n .named .ensures) (w .write-again .ensures own rest q k) in
+          let st = stateIn own (againLent (a .desks) (a .numbers) (a .boxes) (a .pasts) (a .stamps) (a .tally) (a .last) (a .before) rest) q in
+          let p = subst (λ (x : MarkId). AgainIn st x (a .out .now) (w .write-again .last .1 .1 .1 .1 .1 .1 .1 .1 .1 .0) (w .write-again .result)) (n .named .ensures) (w .write-again .ensures own rest q k) in
           record { desk = refl; answer = p .answer; bytes = p .bytes };
     }
 

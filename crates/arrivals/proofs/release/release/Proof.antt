@@ -13,11 +13,11 @@ use Rattle.arrivals.proofs.release.release.Statement.{statement}
 use Rattle.arrivals.proofs.release.release.Tie as tie
 
 abbrev Inv-loop : tie.InvT-loop
-Inv-loop count₀ desks₀ numbers₀ boxes₀ stamps₀ tally₀ heads₀ last₀ before₀ waiting₀ wdesks₀ wnumbers₀ wboxes₀ wstamps₀ executed₀ dropped₀ held₀ i₀ count desks numbers boxes stamps tally heads last before waiting wdesks wnumbers wboxes wstamps executed dropped held i =
-    Releases (arrays count₀ desks₀ numbers₀ boxes₀ stamps₀ tally₀ heads₀ last₀ before₀) (queueOf waiting₀ wdesks₀ wnumbers₀ wboxes₀ wstamps₀) (arrays count desks numbers boxes stamps tally heads last before) (queueOf waiting wdesks wnumbers wboxes wstamps) i executed dropped × (held ≡ waiting)
+Inv-loop count₀ desks₀ numbers₀ boxes₀ pasts₀ stamps₀ tally₀ heads₀ last₀ before₀ waiting₀ wdesks₀ wnumbers₀ wboxes₀ wpasts₀ wstamps₀ executed₀ dropped₀ held₀ i₀ count desks numbers boxes pasts stamps tally heads last before waiting wdesks wnumbers wboxes wpasts wstamps executed dropped held i =
+    Releases (arrays count₀ desks₀ numbers₀ boxes₀ pasts₀ stamps₀ tally₀ heads₀ last₀ before₀) (queueOf waiting₀ wdesks₀ wnumbers₀ wboxes₀ wpasts₀ wstamps₀) (arrays count desks numbers boxes pasts stamps tally heads last before) (queueOf waiting wdesks wnumbers wboxes wpasts wstamps) i executed dropped × (held ≡ waiting)
 
 abbrev μ-loop : tie.MeasureT-loop
-μ-loop count₀ desks₀ numbers₀ boxes₀ stamps₀ tally₀ heads₀ last₀ before₀ waiting₀ wdesks₀ wnumbers₀ wboxes₀ wstamps₀ executed₀ dropped₀ held₀ i₀ count desks numbers boxes stamps tally heads last before waiting wdesks wnumbers wboxes wstamps executed dropped held i = waiting
+μ-loop count₀ desks₀ numbers₀ boxes₀ pasts₀ stamps₀ tally₀ heads₀ last₀ before₀ waiting₀ wdesks₀ wnumbers₀ wboxes₀ wpasts₀ wstamps₀ executed₀ dropped₀ held₀ i₀ count desks numbers boxes pasts stamps tally heads last before waiting wdesks wnumbers wboxes wpasts wstamps executed dropped held i = waiting
 
 lowest-ready-requires : tie.Need-lowest-ready-requires Inv-loop μ-loop
 lowest-ready-requires c κs = let m = c .before .before .before .before .before .pre in (m .queued .few, held-named _ _ m)
@@ -30,16 +30,16 @@ slot : (c : tie.In-loop Inv-loop μ-loop) → c .before .loop .i < c .before .lo
 slot c = let t = c .loop-test .taken in let e = c .before .loop .inv .1 in omega arith
 
 turn-requires : tie.Need-turn-requires Inv-loop μ-loop
-turn-requires c κs = let n = c .before .before .before .before .before .before .before .before .before .before .before .before .before .before in releases-turns _ _ _ _ (n .before .loop .i) _ _ (n .before .loop .inv .0) (slot n)
+turn-requires c κs = let n = c .before .before .before .before .before .before .before .before .before .before .before .before .before .before .before .before in releases-turns _ _ _ _ (n .before .loop .i) _ _ (n .before .loop .inv .0) (slot n)
 
 few : (c : tie.In-loop Inv-loop μ-loop) → c .before .loop .executed + c .before .loop .dropped ≤ waitingPlaces
 few c = releases-few _ _ _ _ (c .before .loop .i) _ _ (c .before .loop .inv .0) (slot c)
 
 add-executed : tie.Need-add-executed Inv-loop μ-loop
-add-executed c = omega (arith, few (c .before .before .before .before .before .before .before .before .before .before .before .before .before .before .before .before))
+add-executed c = omega (arith, few (c .before .before .before .before .before .before .before .before .before .before .before .before .before .before .before .before .before .before))
 
 add-dropped : tie.Need-add-dropped Inv-loop μ-loop
-add-dropped c = omega (arith, few (c .before .before .before .before .before .before .before .before .before .before .before .before .before .before .before .before))
+add-dropped c = omega (arith, few (c .before .before .before .before .before .before .before .before .before .before .before .before .before .before .before .before .before .before))
 
 lowest-ready-requires-2 : tie.Need-lowest-ready-requires-2 Inv-loop μ-loop
 lowest-ready-requires-2 c κs = let m = c .before .before .before .before .before .before .turn .ensures .midway in (m .queued .few, held-named _ _ m)
@@ -51,7 +51,7 @@ loop-again : tie.Need-loop-again Inv-loop μ-loop
 loop-again c =
     let j = c .before .before .before .before .before .before in
     let u = j .before .turn in
-    let l = c .before .before .before .before .before .before .before .before .before .before .before .before .before .before .before .before .before .before .before .before .before .before .before .loop in
+    let l = c .before .before .before .before .before .before .before .before .before .before .before .before .before .before .before .before .before .before .before .before .before .before .before .before .before .loop in
     let n = ⊎-elim (λ w. counts-executed (u .result) (w .0 .taken) (l .executed) (l .dropped) _ _ (w .1) (w .2)) (λ w. counts-dropped (u .result) (w .0 .left) (l .executed) (l .dropped) _ _ (w .1) (w .2)) (j .if1 .came) in
     (releases-again _ _ _ _ (l .i) (l .executed) (l .dropped) (l .inv .0) _ _ (u .result) (u .ensures) (c .lowest-ready2 .result) _ _ (n .0) (n .1) (c .lowest-ready2 .ensures), refl)
 

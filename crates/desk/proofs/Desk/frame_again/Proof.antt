@@ -6,13 +6,13 @@ use Rattle.desk.proofs.Desk.frame_again.Tie as tie
 
 write-again-requires : tie.Need-write-again-requires
 write-again-requires c κs =
-    let s = c .before .before .before .before .before .before .before .before .before .before in
+    let s = c .before .before .before .before .before .before .before .before .before .before .before in
     let d = s .args .t1 in
     record { own = d .own; rest = (d .count, d .heads); queue = d .queue; kept = s .pre }
 
 returns : tie.Need-returns
 returns c =
-    let s = c .before .before .before .before .before .before .before .before .before .before .before .before .before in
+    let s = c .before .before .before .before .before .before .before .before .before .before .before .before .before .before in
     let d = s .args .t1 in
     let p = c .before .before .write-again .ensures (d .own) (d .count, d .heads) (d .queue) (s .pre) in
     record { desk = refl; answer = p .answer; bytes = p .bytes }

@@ -7,7 +7,7 @@ use borrow.Author.Needs.{needs}
 use Rattle.causality.specs.Marks.{find, places}
 use Rattle.causality.specs.Meaning.{idOf}
 use Rattle.causality.specs.State.{markId}
-use Rattle.rows.specs.View.{boxAt, placeAt, width}
+use Rattle.rows.specs.View.{carriedAt, placeAt, width}
 use Rattle.rows.proofs.Slots.{has-slot}
 use Rattle.executed.proofs.Chain.{found-inside, found-place}
 use Rattle.waiting.specs.declared.Waiting.{Waiting}
@@ -21,15 +21,15 @@ use Rattle.in_place.proofs.frame_again.write_again.Tie as tie
 
 -- The arrays of a desk that lends them.
 abbrev marks : tie.Start → ℕ × List ℕ → Arrays
-marks s rest = let a = s .args in againLent (a .desks) (a .numbers) (a .boxes) (a .stamps) (a .tally) (a .last) (a .before) rest
+marks s rest = let a = s .args in againLent (a .desks) (a .numbers) (a .boxes) (a .pasts) (a .stamps) (a .tally) (a .last) (a .before) rest
 
 find-requires : tie.Need-find-requires
 find-requires c κs = let p = c .before .pre in record { names = _; chain = kept-lent _ _ _ (p .kept) .chain }
 
 placed : (f : tie.After-find) (own : ℕ) (rest : ℕ × List ℕ) (q : Waiting) → KeptIn own (marks (f .before .before) rest) q → let d = marks (f .before .before) rest in
-    placeAt width (d .count) (f .find .result) (d .desks) (d .numbers) (boxAt (d .boxes)) (d .stamps) ≡ find markId (idOf (f .before .before .args .a)) (stateIn own d q .executed)
+    placeAt width (d .count) (f .find .result) (d .desks) (d .numbers) (carriedAt (d .boxes) (d .pasts)) (d .stamps) ≡ find markId (idOf (f .before .before .args .a)) (stateIn own d q .executed)
 placed f own rest q k = let d = marks (f .before .before) rest in
-    found-place (d .count) (d .desks) (d .numbers) (d .tally) (d .last) (d .before) (kept-lent own d q k) (idOf (f .before .before .args .a)) (f .find .result) (f .find .ensures) (boxAt (d .boxes)) (d .stamps)
+    found-place (d .count) (d .desks) (d .numbers) (d .tally) (d .last) (d .before) (kept-lent own d q k) (idOf (f .before .before .args .a)) (f .find .result) (f .find .ensures) (carriedAt (d .boxes) (d .pasts)) (d .stamps)
 
 returns : tie.Need-returns
 returns c own rest q k =
@@ -41,13 +41,13 @@ returns c own rest q k =
     not-executed own d q (s .args .a) (s .args .out .now) (f .find .result) (placed f own rest q k) (omega arith)
 
 mark-at-requires : tie.Need-mark-at-requires
-mark-at-requires c κs = has-slot places _ _ _ _ _ _ (c .before .before .before .before .before .before .before .pre .kept .ordered .slots) (c .before .before .before .before .if1 .left)
+mark-at-requires c κs = has-slot places _ _ _ _ _ _ _ (c .before .before .before .before .before .before .before .before .pre .kept .ordered .slots) (c .before .before .before .before .before .if1 .left)
 
 returns-2 : tie.Need-returns-2
 returns-2 c own rest q k =
     let w = c .before .before in
     let m = w .before .before in
-    let e = m .before .before .before .before .before in
+    let e = m .before .before .before .before .before .before in
     let f = e .before in
     let s = f .before .before in
     let d = marks s rest in

@@ -5,7 +5,7 @@ use borrow.Author.Needs.{needs}
 use borrow.Author.Tests.{not-false, not-true}
 use Rattle.frame.specs.Frame.{writing}
 use Rattle.rows.specs.View.{heldMark}
-use Rattle.verdict.proofs.Invariant.{kept-own, kept-total}
+use Rattle.verdict.proofs.Invariant.{kept-count, kept-own, kept-total}
 use Rattle.in_place.proofs.Marking.{box-refused, full-refused, has-room, is-full, made, place-left, write-refused}
 use Rattle.in_place.proofs.MarkLaws.{mark-takes, next-mark, tally-small}
 use Rattle.in_place.proofs.mark.marking.Statement.{statement}
@@ -23,7 +23,7 @@ returns-2 c = λ q e k.
     full-refused _ _ _ k (a .extent) (a .out .now) (sym (c .before .before .box-rule .ensures) ∙ not-false _ (c .before .if1 .left)) (is-full _ _ _ k (a .waiting) e (c .if2 .taken))
 
 next-mark-requires : tie.Need-next-mark-requires
-next-mark-requires c κs = let k = c .before .before .before .before .before .before .before .pre .kept in (kept-own _ _ _ k .0, kept-own _ _ _ k .1, tally-small _ _ _ k)
+next-mark-requires c κs = let k = c .before .before .before .before .before .before .before .pre .kept in (kept-own _ _ _ k .0, kept-own _ _ _ k .1, kept-count _ _ _ k, tally-small _ _ _ k)
 
 returns-3 : tie.Need-returns-3
 returns-3 c = λ q e k.
@@ -36,21 +36,21 @@ returns-3 c = λ q e k.
 
 execute-requires : tie.Need-execute-requires
 execute-requires c κs =
-    let a = c .before .before .before .before .before .before .before .before .before .before .before .before .before .before .before .before .before .before .before .before .before .before .before .before .args in
-    let p = c .before .before .before .before .before .before .before .before .before .before .before .before .before .before .before .before .before .before .before .before .before .before .before .before .pre in
-    let h = c .before .before .before .before .before .before .before .before .before .before .before .before .before .before .before .before .next-mark in
-    mark-takes _ _ _ (p .kept) (a .extent) (h .result) (ap heldMark (h .ensures) ∙ next-mark _ _ _ (p .kept) (a .extent)) (place-left _ _ _ (p .kept) (a .waiting) (p .held) (c .before .before .before .before .before .before .before .before .before .before .before .before .before .before .before .before .before .before .before .if2 .left))
+    let a = c .before .before .before .before .before .before .before .before .before .before .before .before .before .before .before .before .before .before .before .before .before .before .before .before .before .args in
+    let p = c .before .before .before .before .before .before .before .before .before .before .before .before .before .before .before .before .before .before .before .before .before .before .before .before .before .pre in
+    let h = c .before .before .before .before .before .before .before .before .before .before .before .before .before .before .before .before .before .next-mark in
+    mark-takes _ _ _ (p .kept) (a .extent) (h .result) (ap heldMark (h .ensures) ∙ next-mark _ _ _ (p .kept) (a .extent)) (place-left _ _ _ (p .kept) (a .waiting) (p .held) (c .before .before .before .before .before .before .before .before .before .before .before .before .before .before .before .before .before .before .before .before .if2 .left))
 
 returns-4 : tie.Need-returns-4
 returns-4 c = λ q e k.
-    let a = c .before .before .before .before .before .before .before .before .before .before .before .before .before .before .before .before .before .before .before .before .before .before .before .before .before .before .args in
-    let h = c .before .before .before .before .before .before .before .before .before .before .before .before .before .before .before .before .before .before .next-mark in
-    let w = c .before .before .before .before .before .before .before .before .before .before .before .before .before .before .before .before .write-mark in
-    let left = c .before .before .before .before .before .before .before .before .before .before .before .before .before .before .before .before .before .before .before .before .before .if2 .left in
+    let a = c .before .before .before .before .before .before .before .before .before .before .before .before .before .before .before .before .before .before .before .before .before .before .before .before .before .before .before .args in
+    let h = c .before .before .before .before .before .before .before .before .before .before .before .before .before .before .before .before .before .before .before .next-mark in
+    let w = c .before .before .before .before .before .before .before .before .before .before .before .before .before .before .before .before .before .write-mark in
+    let left = c .before .before .before .before .before .before .before .before .before .before .before .before .before .before .before .before .before .before .before .before .before .before .if2 .left in
     let next = ap heldMark (h .ensures) ∙ next-mark _ _ _ k (a .extent) in
-    made _ _ _ k (a .extent) (a .out .now) (sym (c .before .before .before .before .before .before .before .before .before .before .before .before .before .before .before .before .before .before .before .before .before .before .before .box-rule .ensures) ∙ not-false _ (c .before .before .before .before .before .before .before .before .before .before .before .before .before .before .before .before .before .before .before .before .before .before .if1 .left)) (has-room _ _ _ k (a .waiting) e left)
+    made _ _ _ k (a .extent) (a .out .now) (sym (c .before .before .before .before .before .before .before .before .before .before .before .before .before .before .before .before .before .before .before .before .before .before .before .before .box-rule .ensures) ∙ not-false _ (c .before .before .before .before .before .before .before .before .before .before .before .before .before .before .before .before .before .before .before .before .before .before .before .if1 .left)) (has-room _ _ _ k (a .waiting) e left)
     (h .result) next (writing (w .result)) (w .last .1 .0) (w .ensures .0) (w .ensures .1)
-    (c .before .before .before .before .before .before .before .before .before .before .before .before .size .given .0 .0) _ (ap writing (c .before .before .before .before .before .before .before .before .before .before .before .before .size .given .1))
+    (c .before .before .before .before .before .before .before .before .before .before .before .before .before .size .given .0 .0) _ (ap writing (c .before .before .before .before .before .before .before .before .before .before .before .before .before .size .given .1))
     (c .before .execute .ensures)
 
 pub marking-spec : {M : Type 1} → statement M

@@ -7,8 +7,7 @@ use native.Mathlib.Omega.{arith}
 use borrow.Author.Needs.{needs}
 use borrow.Fn.Kinds.{In}
 use borrow.Fn.PlainCycle.{Measures, is, falls, and}
-use Rattle.frame.specs.declared.MarkBox.{MarkBox}
-use Rattle.rows.specs.View.{Named, width}
+use Rattle.rows.specs.View.{Carried, Named, width}
 use Rattle.rows.proofs.RowSteps.{named-at, named-less}
 use Rattle.queries.proofs.Reaching.{reached}
 use Rattle.queries.proofs.Seen.{joined-same, other-down, own-down, passed-same, seen-all, seen-on, seen-own, seen-some}
@@ -120,7 +119,7 @@ row-long t c =
     let s = c .before .before .before .before .before .before .before .before .before in
     ⊎-elim (λ w. rw (w .3) (w .2 .ensures .long)) (λ w. rw (w .1) (s .pre .1 .2)) (c .if3 .came)
 
-row-reaches : (t : ℕ) (c : seen-lts.Joined3 (known t) (seen-at t) seen.Post) (bs : ℕ → MarkBox)
+row-reaches : (t : ℕ) (c : seen-lts.Joined3 (known t) (seen-at t) seen.Post) (bs : ℕ → Carried)
     → let a = c .before .before .before .before .before .before .before .before .before .args in
     reached width (a .desks .now) (a .numbers .now) bs (a .stamps .now) (a .at .0 - 1) (c .if3 .row) (a .desk) ≡ reached width (a .desks .now) (a .numbers .now) bs (a .stamps .now) (a .at .0) (a .row .now) (a .desk)
 row-reaches t c bs =

@@ -10,7 +10,6 @@ use native.Mathlib.Numerals.{add-one}
 use native.Mathlib.Omega.{arith}
 use Rattle.frame.specs.Answer.{gives}
 use Rattle.frame.specs.Mark.{isDesk}
-use Rattle.frame.specs.declared.MarkBox.{MarkBox}
 use Rattle.causality.specs.Calls.{firstApart}
 use Rattle.causality.specs.Meaning.{idOf}
 use Rattle.causality.specs.State.{Mark}
@@ -19,7 +18,7 @@ use Rattle.causality.proofs.Fit.{desk-facts}
 use Rattle.causality.proofs.Reach.{Sound}
 use Rattle.executed.specs.Rows.{Lent}
 use Rattle.executed.proofs.Chain.{found-inside}
-use Rattle.rows.specs.View.{Named, view, width}
+use Rattle.rows.specs.View.{Carried, Named, view, width}
 use Rattle.rows.proofs.RowSteps.{named-less}
 use Rattle.queries.specs.Lent.{lent}
 use Rattle.queries.proofs.FirstApart.{first-lowest, first-no-desk, first-none}
@@ -72,7 +71,7 @@ seen-requires c κs =
 -- What is given once the marks before the place are counted, and those of them that precede.
 given : (c : tie.After-seen) → let m = c .before .before .before .before in
     let a = m .before .before .before .before .before .args in
-    (count own : ℕ) (bs : ℕ → MarkBox) (waiting : List Mark) → Lent count (a .desks .now) (a .numbers .now) (a .tally .now) (a .last .now) (a .before .now)
+    (count own : ℕ) (bs : ℕ → Carried) (waiting : List Mark) → Lent count (a .desks .now) (a .numbers .now) (a .tally .now) (a .last .now) (a .before .now)
     → Sound (view width count (a .desks .now) (a .numbers .now) bs (a .stamps .now))
     → firstApart width (lent count (a .desks .now) (a .numbers .now) (a .stamps .now) own bs waiting) (idOf (a .a)) (a .desk) ≡ gives (lowestAbove (c .seen .result) (m .made-before .result .count))
 given c count own bs waiting l sound =

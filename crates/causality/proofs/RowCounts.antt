@@ -1,0 +1,164 @@
+-- The reckoning by rows: it is the sum of the row that a mark's entries reach, and that row is final as soon as it covers the tally. Assumes nothing.
+use Prim.Native.Nat.{_+_, _<_, _≤_, max, min, suc, zero, ℕ}
+use lib.Dec.{T, T-not, eqb, eqb-refl, eqb→eq, leb, leb→le, le→leb, nleb→lt, not-T}
+use lib.ListN.{length}
+use mathlib.Core.Bool.{Bool, cond, false, not, true}
+use mathlib.Core.List.{List, [], _∷_}
+use mathlib.Core.Logic.{_⊎_, inl, inr}
+use mathlib.Core.Path.{_∙_, _≡_, ap, refl, subst, sym}
+use native.Mathlib.Omega.{arith}
+use Rattle.frame.specs.Mark.{MarkId}
+use Rattle.causality.specs.Marks.{has, keep, same, tally}
+use Rattle.causality.specs.State.{Mark, ids, precedes, reckoning}
+use Rattle.causality.proofs.Apart.{trace-counts}
+use Rattle.causality.proofs.Lists.{has-self, keep-cong}
+use Rattle.causality.proofs.Logic.{nT→eq, or-inr, split}
+use Rattle.causality.proofs.Past.{Counted, no-self, prefix-le, tally-le, tally-same}
+use Rattle.causality.proofs.Reach.{Sound, local, local-hist, local-precedes, sound-counted}
+use Rattle.causality.proofs.RowLaws.{under, under-trace}
+use Rattle.causality.proofs.Rows.{row-find, rowOf, trace}
+
+-- The counts of a row for desks 1 to n, added up.
+abbrev pub rowSum : ℕ → (ℕ → ℕ) → ℕ
+rowSum zero r = 0
+rowSum (suc n) r = r (suc n) + rowSum n r
+
+pub sum-cong : (n : ℕ) (r s : ℕ → ℕ) → ((d : ℕ) → 1 ≤ d → d ≤ n → r d ≡ s d) → rowSum n r ≡ rowSum n s
+sum-cong zero r s f = refl
+sum-cong (suc n) r s f = let a = f (suc n) (omega arith) (omega arith) in let b = sum-cong n r s (λ d p q. f d p (omega arith)) in λ i. a i + b i
+
+sum-zero : (n : ℕ) (r : ℕ → ℕ) → ((d : ℕ) → r d ≡ 0) → rowSum n r ≡ 0
+sum-zero zero r f = refl
+sum-zero (suc n) r f = let a = f (suc n) in let b = sum-zero n r f in omega arith
+
+-- One count is one more.
+sum-one : (n : ℕ) (r s : ℕ → ℕ) (c : ℕ) → 1 ≤ c → c ≤ n → s c ≡ suc (r c) → ((d : ℕ) → (d ≡ c → ⊥) → s d ≡ r d) → rowSum n s ≡ suc (rowSum n r)
+sum-one zero r s c p q e f = let z : ⊥ = omega arith in absurd z
+sum-one (suc n) r s c p q e f = go (split (leb c n)) (λ t. sum-one n r s c p t e f)
+  where
+    go : T (leb c n) ⊎ T (not (leb c n)) → (c ≤ n → rowSum n s ≡ suc (rowSum n r)) → s (suc n) + rowSum n s ≡ suc (r (suc n) + rowSum n r)
+    go (inl t) ih =
+        let l = leb→le c n t in
+        let a = f (suc n) (λ x. let y : ⊥ = omega arith in y) in
+        let b = ih l in
+        omega arith
+    go (inr t) ih =
+        let l = nleb→lt c n t in
+        let k : c ≡ suc n = omega arith in
+        let a : s (suc n) ≡ suc (r (suc n)) = subst (λ (x : ℕ). s x ≡ suc (r x)) k e in
+        let b = sum-cong n s r (λ d u v. f d (λ x. let y : ⊥ = omega arith in y)) in
+        omega arith
+
+pub tally-other : (d : ℕ) (i : MarkId) (is : List MarkId) → (d ≡ i .desk → ⊥) → tally d (i ∷ is) ≡ tally d is
+tally-other d i is n = go (eqb d (i .desk)) refl
+  where
+    go : (b : Bool) → eqb d (i .desk) ≡ b → elim b [ true ↦ suc (tally d is) | false ↦ tally d is ] ≡ tally d is
+    go true e = absurd (n (eqb→eq d (i .desk) (rw e tt)))
+    go false e = refl
+
+-- How many of the marks a row covers.
+sum-counts : (n : ℕ) (r : ℕ → ℕ) (is : List MarkId) → Counted is → ((i : MarkId) → T (has i is) → (1 ≤ i .desk) × (i .desk ≤ n))
+    → length (keep (λ a. leb (a .number) (r (a .desk))) is) ≡ rowSum n (λ d. min (r d) (tally d is))
+sum-counts n r [] c f = sym (sum-zero n (λ d. min (r d) 0) (λ d. omega arith))
+sum-counts n r (i ∷ is) c f = go (leb (i .number) (r (i .desk))) refl (sum-counts n r is (c .1) (λ j t. f j (or-inr (same j i) (has j is) t)))
+  where
+    k : List MarkId
+    k = keep (λ a. leb (a .number) (r (a .desk))) is
+
+    old : ℕ → ℕ
+    old = λ d. min (r d) (tally d is)
+
+    new : ℕ → ℕ
+    new = λ d. min (r d) (tally d (i ∷ is))
+
+    same-else : (d : ℕ) → (d ≡ i .desk → ⊥) → new d ≡ old d
+    same-else d x = ap (λ (t : ℕ). min (r d) t) (tally-other d i is x)
+
+    at : new (i .desk) ≡ min (r (i .desk)) (suc (tally (i .desk) is))
+    at = ap (λ (t : ℕ). min (r (i .desk)) t) (tally-same (i .desk) i is refl)
+
+    go : (b : Bool) → leb (i .number) (r (i .desk)) ≡ b → length k ≡ rowSum n old → length (cond b (i ∷ k) k) ≡ rowSum n new
+    go true e ih =
+        let l = leb→le (i .number) (r (i .desk)) (rw e tt) in
+        let x = c .0 in
+        let y = at in
+        let d = f i (has-self i is) in
+        let o : new (i .desk) ≡ suc (old (i .desk)) = omega arith in
+        ap suc ih ∙ sym (sum-one n old new (i .desk) (d .0) (d .1) o same-else)
+    go false e ih =
+        let l = nleb→lt (i .number) (r (i .desk)) (rw e tt) in
+        let x = c .0 in
+        let y = at in
+        let o : new (i .desk) ≡ old (i .desk) = omega arith in
+        ih ∙ sum-cong n old new (λ d p q. elim (split (eqb d (i .desk))) [
+          | inl t ↦ subst (λ (v : ℕ). old v ≡ new v) (sym (eqb→eq d (i .desk) t)) (sym o)
+          | inr t ↦ sym (same-else d (λ z. T-not (eqb d (i .desk)) t (rw z (eqb-refl (i .desk)))))
+        ])
+
+-- The entries of a sound list's newest mark reach no mark that is not listed.
+trace-tally : (m : Mark) (older : List Mark) → Sound (m ∷ older) → (d : ℕ) → trace older (rowOf (m .stamp)) d ≤ tally d (ids older)
+trace-tally m older s d = elim (split (leb 1 n)) [
+  | inl t ↦
+      let p : T (precedes (m ∷ older) i (m .id)) = rw (trace-counts m older s i (leb→le 1 n t)) (le→leb n n (omega arith)) in
+      let h = local-hist (m ∷ older) s in
+      let l = h .0 .behind i (rw (local-precedes (m ∷ older) s i (m .id)) p) in
+      (prefix-le (ids older) (sound-counted older (s .1)) i l) .1
+  | inr t ↦ let k = nleb→lt 1 n t in omega arith
+]
+  where
+    n : ℕ
+    n = trace older (rowOf (m .stamp)) d
+
+    i : MarkId
+    i = record { desk = d; number = n }
+
+-- "by rows, the sum of the past row".
+pub reckoning-row : (n : ℕ) (m : Mark) (older : List Mark) → Sound (m ∷ older) → ((i : MarkId) → T (has i (ids older)) → (1 ≤ i .desk) × (i .desk ≤ n))
+    → reckoning (m ∷ older) (m .id) ≡ rowSum n (trace older (rowOf (m .stamp)))
+unfolding reckoning
+reckoning-row n m older s f = rw (nT→eq (precedes (m ∷ older) (m .id) (m .id)) alone) (ap length (keep-cong p q (ids older) agree)
+    ∙ sum-counts n r (ids older) (sound-counted older (s .1)) f ∙ sum-cong n (λ d. min (r d) (tally d (ids older))) r (λ d a b. let t = trace-tally m older s d in omega arith))
+  where
+    r : ℕ → ℕ
+    r = trace older (rowOf (m .stamp))
+
+    p : MarkId → Bool
+    p a = precedes (m ∷ older) a (m .id)
+
+    q : MarkId → Bool
+    q a = leb (a .number) (r (a .desk))
+
+    agree : (a : MarkId) → T (has a (ids older)) → p a ≡ q a
+    agree a t = trace-counts m older s a ((prefix-le (ids older) (sound-counted older (s .1)) a t) .0)
+
+    alone : T (not (precedes (m ∷ older) (m .id) (m .id)))
+    alone = not-T (precedes (m ∷ older) (m .id) (m .id)) (λ t. no-self (local (m ∷ older)) (m ∷ older) (local-hist (m ∷ older) s) (m .id) (has-self (m .id) (ids older)) (rw (local-precedes (m ∷ older) s (m .id) (m .id)) t))
+
+-- A row that covers the tally is final: every older mark is then in the past.
+pub trace-final : (l : List Mark) → Sound l → (r : ℕ → ℕ) → ((d : ℕ) → tally d (ids l) ≤ r d) → (d : ℕ) → trace l r d ≡ r d
+trace-final [] s r f d = refl
+trace-final (m ∷ older) s r f d = go (leb (m .id .number) (r (m .id .desk))) (trace-final older (s .1) r′ (λ c. let a = less c in omega arith) d) (trace-final older (s .1) r less d)
+  where
+    r′ : ℕ → ℕ
+    r′ = λ d. max (r d) (rowOf (m .stamp) d)
+
+    less : (c : ℕ) → tally c (ids older) ≤ r c
+    less c = let a = tally-le c (m .id) (ids older) in let b = f c in omega arith
+
+    low : rowOf (m .stamp) d ≤ tally d (ids older)
+    low = elim (split (leb 1 (rowOf (m .stamp) d))) [
+      | inl t ↦
+          let x = row-find (m .stamp) d (rowOf (m .stamp) d) (leb→le 1 (rowOf (m .stamp) d) t) (omega arith) in
+          let y = (prefix-le (ids older) (sound-counted older (s .1)) (x .e) (s .0 .listed (x .e) (x .there))) .1 in
+          let y′ : x .e .number ≤ tally d (ids older) = subst (λ (k : ℕ). x .e .number ≤ tally k (ids older)) (x .desk) y in
+          let h = x .high in
+          omega arith
+      | inr t ↦ let k = nleb→lt 1 (rowOf (m .stamp) d) t in omega arith
+    ]
+
+    go : (b : Bool) → trace older r′ d ≡ r′ d → trace older r d ≡ r d → (elim b as (λ x. ℕ → ℕ) [ true ↦ trace older r′ | false ↦ trace older r ]) d ≡ r d
+    go true a b = let x = low in let y = less d in a ∙ (let z : max (r d) (rowOf (m .stamp) d) ≡ r d = omega arith in z)
+    go false a b = b
+
+pub under-final : (l : List Mark) → Sound l → (s r : ℕ → ℕ) → ((d : ℕ) → tally d (ids l) ≤ max (s d) (r d)) → (d : ℕ) → max (s d) (under l s r d) ≡ max (s d) (r d)
+under-final l so s r f d = under-trace l s r d ∙ trace-final l so (λ d. max (s d) (r d)) f d

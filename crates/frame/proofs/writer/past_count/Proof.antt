@@ -1,0 +1,12 @@
+-- `past_count` meets its contract.
+use Rattle.frame.specs.Frame.{bytes2}
+use borrow.Author.Needs.{needs}
+use Rattle.frame.proofs.writer.past_count.Statement.{statement}
+use Rattle.frame.proofs.writer.past_count.Tie as tie
+
+returns-2 : tie.Need-returns-2
+unfolding bytes2
+returns-2 c = rw (c .before .past .given .1)
+
+pub past-count-spec : {M : Type 1} → statement M
+past-count-spec = tie.close (tie.spec (λ c. search needs) (λ c. search needs) (λ c. search needs) returns-2)
