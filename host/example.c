@@ -7,8 +7,11 @@
 _Static_assert(sizeof(kaungimewe_box) == 16, "a box has 16 bytes");
 _Static_assert(sizeof(kaungimewe_mark_id) == 4, "a mark's name has 4 bytes");
 _Static_assert(offsetof(kaungimewe_mark_id, number) == 2, "the number stands at offset 2");
-_Static_assert(sizeof(kaungimewe_waiting) == 3272, "waiting marks have 3,272 bytes");
-_Static_assert(sizeof(kaungimewe_desk) == 30520, "a desk has 30,520 bytes");
+_Static_assert(sizeof(kaungimewe_waiting) == 3400, "waiting marks have 3,400 bytes");
+_Static_assert(sizeof(kaungimewe_desk) == 31672, "a desk has 31,672 bytes");
+_Static_assert(sizeof(kaungimewe_read_answer) == 32, "what the reader answers has 32 bytes");
+_Static_assert(offsetof(kaungimewe_read_answer, edition) == 20, "the edition stands at offset 20");
+_Static_assert(offsetof(kaungimewe_read_answer, past) == 22, "the past count stands at offset 22");
 
 typedef struct {
     uint8_t bytes[KAUNGIMEWE_LARGEST_FRAME];
@@ -107,13 +110,19 @@ static void new_desks(void)
     }
 }
 
-/* 1.2 with its stamp (1,1), (2,1), (3,1), as document 01 spells it. */
-static void check_bytes(frame f12)
+/* 1.2 with its stamp (1,1), (2,1), (3,1), of edition 1 as document 01 spells it, and of edition 2. */
+static const frame f12_1 = {{0x00, 0x1E, 0x01, 0x01, 0x00, 0x02, 0x00, 0x00, 0x03, 0xE8, 0x00,
+                             0x00, 0x05, 0xDC, 0x00, 0x00, 0x00, 0x64, 0x00, 0x00, 0x01, 0x90,
+                             0x03, 0x01, 0x00, 0x01, 0x02, 0x00, 0x01, 0x03, 0x00, 0x01},
+                            32};
+static const frame f12_2 = {{0x00, 0x20, 0x02, 0x01, 0x00, 0x02, 0x00, 0x00, 0x03, 0xE8, 0x00, 0x00,
+                             0x05, 0xDC, 0x00, 0x00, 0x00, 0x64, 0x00, 0x00, 0x01, 0x90, 0x03, 0x00,
+                             0x03, 0x01, 0x00, 0x01, 0x02, 0x00, 0x01, 0x03, 0x00, 0x01},
+                            34};
+
+static int equal(frame f, frame g)
 {
-    static const uint8_t expected[32] = {0x00, 0x1E, 0x01, 0x01, 0x00, 0x02, 0x00, 0x00, 0x03, 0xE8, 0x00,
-                                         0x00, 0x05, 0xDC, 0x00, 0x00, 0x00, 0x64, 0x00, 0x00, 0x01, 0x90,
-                                         0x03, 0x01, 0x00, 0x01, 0x02, 0x00, 0x01, 0x03, 0x00, 0x01};
-    check(f12.size == 32 && memcmp(f12.bytes, expected, 32) == 0, "the frame of 1.2");
+    return f.size == g.size && memcmp(f.bytes, g.bytes, f.size) == 0;
 }
 
 /* What desk 3 keeps beside its marks 3.1, 3.2, 1.1, 2.1, 1.2, 2.2, 4.1. */
@@ -123,11 +132,13 @@ static void check_rows(void)
     static const uint16_t heads[KAUNGIMEWE_DESKS] = {0, 2, 0, 1};
     static const uint16_t last[KAUNGIMEWE_DESKS] = {5, 6, 2, 7};
     static const uint16_t previous[7] = {0, 1, 0, 0, 3, 4, 0};
+    static const uint16_t pasts[7] = {1, 2, 1, 1, 4, 5, 4};
     check(desk[3].count == 7 && desk[3].queue.count == 0, "seven marks are executed, none waits");
     check(memcmp(desk[3].tally, tally, sizeof tally) == 0, "the tally");
     check(memcmp(desk[3].heads, heads, sizeof heads) == 0, "the heads are 2.2 and 4.1");
     check(memcmp(desk[3].last, last, sizeof last) == 0, "the place of each desk's last mark");
     check(memcmp(desk[3].before, previous, sizeof previous) == 0, "the place of each mark's previous one");
+    check(memcmp(desk[3].pasts, pasts, sizeof pasts) == 0, "each mark's past count, and one");
 }
 
 static int named(kaungimewe_mark_id id, unsigned d, unsigned number)
@@ -165,22 +176,78 @@ static void check_relations(void)
     check(kaungimewe_relate(&desk[3], 4, 1, 4, 2).refusal == KAUNGIMEWE_NOT_EXECUTED, "4.2 is not there");
 }
 
-static void check_frames(frame f12)
+static void check_frames(void)
 {
     uint8_t out[40];
     memset(out, 0x77, sizeof out);
-    check(kaungimewe_frame_again(&desk[3], 1, 2, out, 31).refusal == KAUNGIMEWE_OUTPUT_SHORT, "31 bytes are too few");
+    check(kaungimewe_frame_again(&desk[3], 1, 2, out, 33).refusal == KAUNGIMEWE_OUTPUT_SHORT, "33 bytes are too few");
     check(out[0] == 0x77, "a refusal writes nothing");
-    check(kaungimewe_frame_again(&desk[3], 1, 2, out, sizeof out).size == 32, "frame again answers its size");
-    check(memcmp(out, f12.bytes, 32) == 0 && out[32] == 0x77, "frame again writes the frame and no more");
+    check(kaungimewe_frame_again(&desk[3], 1, 2, out, sizeof out).size == 34, "frame again answers its size");
+    check(memcmp(out, f12_2.bytes, 34) == 0 && out[34] == 0x77, "frame again writes the frame and no more");
 
-    kaungimewe_read_answer r = kaungimewe_read(out, 32);
+    kaungimewe_read_answer r = kaungimewe_read(out, 34), s = kaungimewe_read(f12_1.bytes, f12_1.size);
     check(r.refusal == 0 && r.desk == 1 && r.number == 2 && r.extent.high == 400 && r.entries_size == 9, "the reader");
+    check(r.edition == 2 && r.past == 3 && s.edition == 1 && s.past == 0 && s.entries_size == 9, "both editions");
     check(kaungimewe_read(out, 22).refusal == KAUNGIMEWE_FRAME_LENGTH, "22 bytes");
 
+    const uint8_t *entries = f12_1.bytes + KAUNGIMEWE_HEAD;
     frame g;
-    g.size = kaungimewe_write(1, 2, 1000, 1500, 100, 400, f12.bytes + KAUNGIMEWE_HEAD, 9, g.bytes, sizeof g.bytes).size;
-    check(g.size == 32 && memcmp(g.bytes, f12.bytes, 32) == 0, "the writer");
+    g.size = kaungimewe_write(1, 2, 1000, 1500, 100, 400, entries, 9, g.bytes, sizeof g.bytes).size;
+    check(equal(g, f12_1), "the writer of edition 1");
+    g.size = kaungimewe_write2(1, 2, 1000, 1500, 100, 400, 3, entries, 9, g.bytes, sizeof g.bytes).size;
+    check(equal(g, f12_2), "the writer of edition 2");
+    check(kaungimewe_write2(1, 2, 1000, 1500, 100, 400, 512, entries, 9, g.bytes, sizeof g.bytes).refusal ==
+              KAUNGIMEWE_FIELD_RANGE,
+          "a past count of 512");
+}
+
+/* Desk d converts a frame to edition 2: it refuses with this number, or writes those 34 bytes. */
+static void to2(int d, frame f, size_t lent, unsigned refusal)
+{
+    frame g;
+    memset(g.bytes, 0x77, sizeof g.bytes);
+    remember(d);
+    kaungimewe_write_answer a = kaungimewe_to2(&desk[d], f.bytes, f.size, g.bytes, lent);
+    g.size = a.size;
+    check(a.refusal == refusal, "to edition 2, or the refusal");
+    check(refusal == 0 ? equal(g, f12_2) : a.size == 0 && g.bytes[0] == 0x77, "the frame is written, or nothing");
+    check_unchanged(d, "a conversion leaves the desk");
+}
+
+/* 1.2 from one edition to the other, at desk 1 and at a fresh desk 4. */
+static void check_conversions(void)
+{
+    frame later = f12_1, lie = f12_2, over = f12_2, g;
+    later.bytes[9]++;   /* start 1,001 */
+    lie.bytes[24] = 7;  /* past count 7 */
+    over.bytes[23] = 2; /* past count 512 */
+    over.bytes[24] = 0;
+    desk[4] = kaungimewe_new(4).desk;
+    to2(1, f12_1, 34, KAUNGIMEWE_NOT_REFUSED);
+    to2(1, f12_1, 33, KAUNGIMEWE_OUTPUT_SHORT);
+    to2(4, f12_1, 0, KAUNGIMEWE_NOT_EXECUTED);
+    to2(1, later, 0, KAUNGIMEWE_OTHER_FIELDS);
+    to2(1, f12_2, sizeof g.bytes, KAUNGIMEWE_SAME_EDITION);
+    to2(1, over, sizeof g.bytes, KAUNGIMEWE_FIELD_RANGE);
+    g.size = kaungimewe_to1(f12_2.bytes, f12_2.size, g.bytes, 32).size;
+    check(equal(g, f12_1), "to edition 1");
+    g.size = kaungimewe_to1(lie.bytes, lie.size, g.bytes, 32).size;
+    check(equal(g, f12_1), "to edition 1 the past count is not judged");
+    check(kaungimewe_to1(f12_2.bytes, f12_2.size, g.bytes, 31).refusal == KAUNGIMEWE_OUTPUT_SHORT, "31 bytes");
+    check(kaungimewe_to1(f12_1.bytes, f12_1.size, g.bytes, 0).refusal == KAUNGIMEWE_SAME_EDITION, "it is of edition 1");
+}
+
+/* A fresh desk 2 gets 1.1 with a false past count, with its true one, in edition 1, and with the false one again. */
+static void check_past_count(frame f11)
+{
+    frame lie = f11, first;
+    lie.bytes[24] = 1;
+    first.size = kaungimewe_to1(f11.bytes, f11.size, first.bytes, sizeof first.bytes).size;
+    desk[2] = kaungimewe_new(2).desk;
+    refuse(2, lie, KAUNGIMEWE_FALSE_STAMP);
+    receive(2, f11, KAUNGIMEWE_EXECUTED, 1, 0);
+    receive(2, first, KAUNGIMEWE_KNOWN, 0, 0);
+    refuse(2, lie, KAUNGIMEWE_OTHER_FIELDS);
 }
 
 /* 1.2 with an empty stamp: waiting at a fresh desk 2 and dropped once 1.1 is there, and then refused. */
@@ -219,38 +286,46 @@ static void check_click(void)
     refuse(2, click, KAUNGIMEWE_FIELD_RANGE);
 }
 
+/* What desk 3 answers, which has all seven marks. */
+static void check_desk_3(void)
+{
+    check_rows();
+    check_relations();
+    check_apart();
+    check_first_apart();
+    check_frames();
+}
+
 int main(void)
 {
     new_desks();
-    refuse_mark(1, 1500, 22, KAUNGIMEWE_OUTPUT_SHORT);
+    refuse_mark(1, 1500, 24, KAUNGIMEWE_OUTPUT_SHORT);
     refuse_mark(1, 999, KAUNGIMEWE_LARGEST_FRAME, KAUNGIMEWE_FIELD_RANGE);
-    frame f11 = mark(1, 1, 23), f21 = mark(2, 1, 23), f31 = mark(3, 1, 23), f32 = mark(3, 2, 26);
+    frame f11 = mark(1, 1, 25), f21 = mark(2, 1, 25), f31 = mark(3, 1, 25), f32 = mark(3, 2, 28);
     receive(1, f21, KAUNGIMEWE_EXECUTED, 1, 0);
     receive(1, f31, KAUNGIMEWE_EXECUTED, 1, 0);
-    frame f12 = mark(1, 2, 32);
-    check_bytes(f12);
+    frame f12 = mark(1, 2, 34);
+    check(equal(f12, f12_2), "the frame of 1.2");
 
     receive(2, f31, KAUNGIMEWE_EXECUTED, 1, 0);
     wait(2, f12, 1);
     receive(2, f12, KAUNGIMEWE_KNOWN, 0, 0);
     receive(2, f11, KAUNGIMEWE_EXECUTED, 2, 0);
     check(desk[2].desks[2] == 1 && desk[2].numbers[2] == 1 && desk[2].numbers[3] == 2, "1.1 was executed, then 1.2");
-    frame f22 = mark(2, 2, 26);
+    frame f22 = mark(2, 2, 28);
 
     receive(4, f11, KAUNGIMEWE_EXECUTED, 1, 0);
     receive(4, f31, KAUNGIMEWE_EXECUTED, 1, 0);
     receive(4, f32, KAUNGIMEWE_EXECUTED, 1, 0);
-    frame f41 = mark(4, 1, 29);
+    frame f41 = mark(4, 1, 31);
 
     frame others[5] = {f11, f21, f12, f22, f41};
     for (int i = 0; i < 5; i++) {
         receive(3, others[i], KAUNGIMEWE_EXECUTED, 1, 0);
     }
-    check_rows();
-    check_relations();
-    check_apart();
-    check_first_apart();
-    check_frames(f12);
+    check_desk_3();
+    check_conversions();
+    check_past_count(f11);
     check_false_stamp(f11);
     check_missing(f12, f22, f11);
     check_click();

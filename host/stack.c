@@ -16,6 +16,7 @@ typedef struct {
 
 static kaungimewe_desk maker, reader;
 static frame frames[MARKS + 1]; /* frames[n] is that of 1.n */
+static frame first;             /* 1.511 of edition 1 */
 static kaungimewe_mark_id names[KAUNGIMEWE_PLACES];
 static uint8_t out[KAUNGIMEWE_LARGEST_FRAME];
 static unsigned failed;
@@ -72,7 +73,27 @@ static void *first_apart(void *unused)
 
 static void *frame_again(void *unused)
 {
-    failed += kaungimewe_frame_again(&maker, 1, 1, out, sizeof out).size != KAUNGIMEWE_HEAD;
+    failed += kaungimewe_frame_again(&maker, 1, 1, out, sizeof out).size != KAUNGIMEWE_HEAD2;
+    return unused;
+}
+
+/* 1.511 to edition 2, at the desk that made it. */
+static void *to2(void *unused)
+{
+    failed += kaungimewe_to2(&maker, first.bytes, first.size, out, sizeof out).size != frames[MARKS].size;
+    return unused;
+}
+
+static void *to1(void *unused)
+{
+    failed += kaungimewe_to1(frames[MARKS].bytes, frames[MARKS].size, out, sizeof out).size != first.size;
+    return unused;
+}
+
+static void *write2(void *unused)
+{
+    const uint8_t *entries = first.bytes + KAUNGIMEWE_HEAD;
+    failed += kaungimewe_write2(1, MARKS, 1, 2, 3, 4, MARKS - 1, entries, 3, out, sizeof out).size != frames[MARKS].size;
     return unused;
 }
 
@@ -116,6 +137,7 @@ static void prepare(void)
             kaungimewe_receive(&reader, frames[n].bytes, frames[n].size);
         }
     }
+    first.size = kaungimewe_to1(frames[MARKS].bytes, frames[MARKS].size, first.bytes, sizeof first.bytes).size;
 }
 
 int main(void)
@@ -129,6 +151,9 @@ int main(void)
     measure("apart", apart, NULL);
     measure("first apart", first_apart, NULL);
     measure("frame again", frame_again, NULL);
+    measure("to2", to2, NULL);
+    measure("to1", to1, NULL);
+    measure("write2", write2, NULL);
     measure("mark", mark, NULL);
     return failed != 0;
 }

@@ -4,6 +4,9 @@
  * reads frames, executes the marks of other desks in causal order, and says of two marks which was made in knowledge
  * of which. Mark d.n is the n-th made at desk d.
  *
+ * Frames have two editions. Edition 2 says its mark's past count, the number of marks that precede the mark. Desks read
+ * both and write edition 2; the writer writes either, and a converter turns one into the other.
+ *
  * Three rules for a host:
  * - A desk comes only from kaungimewe_new and the calls below. Never alter one by hand: all that is proved of the
  *   calls supposes this and nothing else. Reading a desk's members is fine.
@@ -11,7 +14,7 @@
  *   marks beside it: their marks would share names.
  * - No pointer is NULL, also where its length is 0. What a call writes to overlaps nothing else that it is lent.
  *
- * A desk has 30,520 bytes; only kaungimewe_new gives one by value and took 60 KiB of stack when measured. Apart took
+ * A desk has 31,672 bytes; only kaungimewe_new gives one by value and took 60 KiB of stack when measured. Apart took
  * under 5 KiB, every other call under 1 KiB (host/stack.c measures them). No call allocates, blocks, or keeps anything
  * between calls. Every call may be made from any thread; while one thread marks or receives at a desk, no other may use
  * that desk.
@@ -32,26 +35,37 @@ enum {
     KAUNGIMEWE_DESKS = 16,         /* desks are numbered 1 to 16; a stamp has at most so many entries */
     KAUNGIMEWE_PLACES = 512,       /* numbers are 1 to 512; executed plus waiting marks at most */
     KAUNGIMEWE_WAITING_PLACES = 64, /* waiting marks at most */
-    KAUNGIMEWE_HEAD = 23,          /* bytes of a frame before its entries */
-    KAUNGIMEWE_LARGEST_FRAME = 71  /* 23 + 3 * 16 */
+    KAUNGIMEWE_PASTS = 511,        /* a past count is 0 to 511 */
+    KAUNGIMEWE_HEAD = 23,          /* bytes of a frame of edition 1 before its entries */
+    KAUNGIMEWE_HEAD2 = 25,         /* bytes of a frame of edition 2 before its entries, the past count last */
+    KAUNGIMEWE_LARGEST_FRAME = 73  /* 25 + 3 * 16 */
 };
 
-/* Why a call refuses. Conditions are tried by rising number; a refusal leaves desk and lent memory as found. */
+/* Why a call refuses. Conditions are tried by rising number, but that to2 and to1 try 14 directly behind 6, and to2 then
+ * 12 before 8. A refusal leaves desk and lent memory as found. */
 enum {
     KAUNGIMEWE_NOT_REFUSED = 0,
     KAUNGIMEWE_DESK_RANGE = 1,     /* desk not 1 to 16: new, first_apart */
-    KAUNGIMEWE_FRAME_LENGTH = 2,   /* under 23 bytes, or length field not size - 2: receive, read */
-    KAUNGIMEWE_FRAME_VERSION = 3,  /* version not 1: receive, read */
-    KAUNGIMEWE_ENTRY_COUNT = 4,    /* c over 16, or (read) size not 23 + 3c, or (write) entries part not whole entries: receive, read, write */
-    KAUNGIMEWE_FIELD_RANGE = 5,    /* desk or number out of range, or box rule broken (start > end, or low >= high): receive, read, write, mark (box only) */
-    KAUNGIMEWE_ENTRY_RANGE = 6,    /* an entry out of range, desks not strictly rising, or own desk's entry with number >= the frame's: receive, read, write */
+    KAUNGIMEWE_FRAME_LENGTH = 2,   /* under 23 bytes, or length field not size - 2, in both editions: receive, read, to2,
+                                    * to1 */
+    KAUNGIMEWE_FRAME_VERSION = 3,  /* version not 1 or 2: receive, read, to2, to1 */
+    KAUNGIMEWE_ENTRY_COUNT = 4,    /* c over 16, or (read) size not 23 + 3c in edition 1, 25 + 3c in edition 2, or (write)
+                                    * entries part not whole entries: receive, read, to2, to1, write, write2 */
+    KAUNGIMEWE_FIELD_RANGE = 5,    /* desk or number out of range, past count over 511, or box rule broken (start > end, or
+                                    * low >= high): receive, read, to2, to1, write, write2, mark (box only) */
+    KAUNGIMEWE_ENTRY_RANGE = 6,    /* an entry out of range, desks not strictly rising, or own desk's entry with number >=
+                                    * the frame's: receive, read, to2, to1, write, write2 */
     KAUNGIMEWE_NOT_YET_MADE = 7,   /* frame's mark, or an entry, is of this desk and not yet made: receive */
-    KAUNGIMEWE_OTHER_BYTES = 8,    /* same mark executed or waiting with other bytes: receive */
+    KAUNGIMEWE_OTHER_FIELDS = 8,   /* same mark executed or waiting (to2: executed) with other fields, the past counts
+                                    * compared where both have one: receive, to2 */
     KAUNGIMEWE_DESK_FULL = 9,      /* executed + waiting = 512: receive, mark */
     KAUNGIMEWE_WAITING_FULL = 10,  /* not ready, 64 waiting: receive */
-    KAUNGIMEWE_FALSE_STAMP = 11,   /* ready, false stamp: receive */
-    KAUNGIMEWE_NOT_EXECUTED = 12,  /* a named mark is not executed: relate, apart, first_apart, frame_again */
-    KAUNGIMEWE_OUTPUT_SHORT = 13   /* lent output too short: write, mark, apart, frame_again */
+    KAUNGIMEWE_FALSE_STAMP = 11,   /* ready, false stamp: by its entries, or by a past count that is not the desk's own
+                                    * reckoning: receive */
+    KAUNGIMEWE_NOT_EXECUTED = 12,  /* a named mark is not executed: relate, apart, first_apart, frame_again, to2 (that of
+                                    * the frame) */
+    KAUNGIMEWE_OUTPUT_SHORT = 13,  /* lent output too short: write, write2, mark, apart, frame_again, to2, to1 */
+    KAUNGIMEWE_SAME_EDITION = 14   /* frame already of the wanted edition: to2, to1 */
 };
 
 /* What receive answers. */
@@ -72,18 +86,21 @@ typedef struct {
     uint16_t number;
 } kaungimewe_mark_id;
 
-/* The waiting marks in order of arrival: the first `count` of each array, laid out as those of a desk. */
+/* The waiting marks in order of arrival: the first `count` of each array, laid out as those of a desk, but that pasts[p] is
+ * 0 where the mark's frame, of edition 1, says no past count. */
 typedef struct {
     size_t count;
     uint8_t desks[KAUNGIMEWE_WAITING_PLACES];
     uint16_t numbers[KAUNGIMEWE_WAITING_PLACES];
     uint32_t boxes[KAUNGIMEWE_WAITING_PLACES * 4];
+    uint16_t pasts[KAUNGIMEWE_WAITING_PLACES];
     uint16_t stamps[KAUNGIMEWE_WAITING_PLACES * KAUNGIMEWE_DESKS];
 } kaungimewe_waiting;
 
-/* A desk: its executed marks by place (the first `count` of desks, numbers, boxes, stamps and before) and its waiting
- * ones. boxes[4 * p] .. boxes[4 * p + 3] are start, end, low and high of the mark at place p; stamps[16 * p + d - 1] is
- * the number that its stamp names of desk d, 0 where it names none.
+/* A desk: its executed marks by place (the first `count` of desks, numbers, boxes, pasts, stamps and before) and its
+ * waiting ones. boxes[4 * p] .. boxes[4 * p + 3] are start, end, low and high of the mark at place p; pasts[p] is one more
+ * than its past count, so never 0; stamps[16 * p + d - 1] is the number that its stamp names of desk d, 0 where it names
+ * none.
  * What follows from the executed marks is kept beside them: tally, heads, last and before. */
 typedef struct {
     uint8_t own;
@@ -91,6 +108,7 @@ typedef struct {
     uint8_t desks[KAUNGIMEWE_PLACES];
     uint16_t numbers[KAUNGIMEWE_PLACES];
     uint32_t boxes[KAUNGIMEWE_PLACES * 4];
+    uint16_t pasts[KAUNGIMEWE_PLACES];
     uint16_t stamps[KAUNGIMEWE_PLACES * KAUNGIMEWE_DESKS];
     uint16_t tally[KAUNGIMEWE_DESKS];   /* tally[d - 1]: how many marks of desk d are executed */
     uint16_t heads[KAUNGIMEWE_DESKS];   /* heads[d - 1]: the number of desk d's last mark if it is a head, else 0 */
@@ -99,7 +117,7 @@ typedef struct {
     kaungimewe_waiting queue;
 } kaungimewe_desk;
 
-/* In each answer `refusal` is 0 where the call did not refuse, else one of 1 to 13; the other values are then 0. */
+/* In each answer `refusal` is 0 where the call did not refuse, else one of 1 to 14; the other values are then 0. */
 
 typedef struct {
     kaungimewe_desk desk;
@@ -109,7 +127,7 @@ typedef struct {
 typedef struct {
     uint8_t refusal;
     uint16_t number; /* of the new mark */
-    size_t size;     /* of its frame */
+    size_t size;     /* of its frame, of edition 2 */
 } kaungimewe_mark_answer;
 
 typedef struct {
@@ -146,21 +164,25 @@ typedef struct {
     uint8_t desk;
     uint16_t number;
     kaungimewe_box extent;
-    size_t entries_size; /* the entries are frame[23] .. frame[23 + entries_size - 1] */
+    uint8_t edition;     /* 1 or 2 */
+    uint16_t past;       /* the past count, of edition 2; 0 in edition 1 */
+    size_t entries_size; /* the entries are so many bytes from frame[23] on in edition 1, frame[25] in edition 2 */
 } kaungimewe_read_answer;
 
 /* The exports whose names end in _lent are inner ones: lent the members of a desk by the functions below. Do not call
  * them by hand. They ask that all they are lent is of one desk that the calls gave. */
 kaungimewe_mark_answer kaungimewe_mark_lent(uint8_t own, size_t *count, uint8_t *desks, uint16_t *numbers,
-                                            uint32_t *boxes, uint16_t *stamps, uint16_t *tally, uint16_t *heads,
-                                            uint16_t *last, uint16_t *before, size_t waiting, uint32_t start,
-                                            uint32_t end, uint32_t low, uint32_t high, uint8_t *out, size_t lent);
+                                            uint32_t *boxes, uint16_t *pasts, uint16_t *stamps, uint16_t *tally,
+                                            uint16_t *heads, uint16_t *last, uint16_t *before, size_t waiting,
+                                            uint32_t start, uint32_t end, uint32_t low, uint32_t high, uint8_t *out,
+                                            size_t lent);
 
 kaungimewe_receive_answer kaungimewe_receive_lent(uint8_t own, size_t *count, uint8_t *desks, uint16_t *numbers,
-                                                  uint32_t *boxes, uint16_t *stamps, uint16_t *tally, uint16_t *heads,
-                                                  uint16_t *last, uint16_t *before, size_t *waiting, uint8_t *wdesks,
-                                                  uint16_t *wnumbers, uint32_t *wboxes, uint16_t *wstamps,
-                                                  const uint8_t *frame, size_t size);
+                                                  uint32_t *boxes, uint16_t *pasts, uint16_t *stamps, uint16_t *tally,
+                                                  uint16_t *heads, uint16_t *last, uint16_t *before, size_t *waiting,
+                                                  uint8_t *wdesks, uint16_t *wnumbers, uint32_t *wboxes,
+                                                  uint16_t *wpasts, uint16_t *wstamps, const uint8_t *frame,
+                                                  size_t size);
 
 kaungimewe_relate_answer kaungimewe_relate_lent(const uint8_t *desks, const uint16_t *numbers, const uint16_t *stamps,
                                                 const uint16_t *tally, const uint16_t *last, const uint16_t *before,
@@ -177,31 +199,39 @@ kaungimewe_first_answer kaungimewe_first_apart_lent(const uint8_t *desks, const 
                                                     uint8_t desk);
 
 kaungimewe_write_answer kaungimewe_frame_again_lent(const uint8_t *desks, const uint16_t *numbers,
-                                                    const uint32_t *boxes, const uint16_t *stamps,
-                                                    const uint16_t *tally, const uint16_t *last, const uint16_t *before,
-                                                    uint8_t a_desk, uint16_t a_number, uint8_t *out, size_t lent);
+                                                    const uint32_t *boxes, const uint16_t *pasts,
+                                                    const uint16_t *stamps, const uint16_t *tally,
+                                                    const uint16_t *last, const uint16_t *before, uint8_t a_desk,
+                                                    uint16_t a_number, uint8_t *out, size_t lent);
+
+kaungimewe_write_answer kaungimewe_to2_lent(const uint8_t *desks, const uint16_t *numbers, const uint32_t *boxes,
+                                            const uint16_t *pasts, const uint16_t *stamps, const uint16_t *tally,
+                                            const uint16_t *last, const uint16_t *before, const uint8_t *frame,
+                                            size_t size, uint8_t *out, size_t lent);
 
 /* New: an empty desk. Refuses with 1, and then gives an empty desk 1. */
 kaungimewe_new_answer kaungimewe_new(uint8_t own);
 
-/* Mark: the box becomes this desk's next mark, stamped with the heads and executed; its frame is written to the first
- * `size` of the `lent` bytes at `out`, later bytes keep their values. Refuses with 5 (box), 9, 13. */
+/* Mark: the box becomes this desk's next mark, stamped with the heads and executed; its frame, of edition 2, is written
+ * to the first `size` of the `lent` bytes at `out`, later bytes keep their values. Refuses with 5 (box), 9, 13. */
 static inline kaungimewe_mark_answer kaungimewe_mark(kaungimewe_desk *desk, uint32_t start, uint32_t end, uint32_t low,
                                                      uint32_t high, uint8_t *out, size_t lent)
 {
-    return kaungimewe_mark_lent(desk->own, &desk->count, desk->desks, desk->numbers, desk->boxes, desk->stamps,
-                                desk->tally, desk->heads, desk->last, desk->before, desk->queue.count, start, end, low,
-                                high, out, lent);
+    return kaungimewe_mark_lent(desk->own, &desk->count, desk->desks, desk->numbers, desk->boxes, desk->pasts,
+                                desk->stamps, desk->tally, desk->heads, desk->last, desk->before, desk->queue.count,
+                                start, end, low, high, out, lent);
 }
 
-/* Receive: the frame's mark is known, set waiting, short of so many marks, or executed; after an executed mark the ready
- * waiting ones are released. Refuses with 2 to 11. */
+/* Receive: the mark of a frame, of either edition, is known, set waiting, short of so many marks, or executed; after an
+ * executed mark the ready waiting ones are released. It is known if it is executed or waiting here with the same fields,
+ * the past counts compared where both have one; the desk is then as it was. Refuses with 2 to 11. */
 static inline kaungimewe_receive_answer kaungimewe_receive(kaungimewe_desk *desk, const uint8_t *frame, size_t size)
 {
     kaungimewe_waiting *queue = &desk->queue;
-    return kaungimewe_receive_lent(desk->own, &desk->count, desk->desks, desk->numbers, desk->boxes, desk->stamps,
-                                   desk->tally, desk->heads, desk->last, desk->before, &queue->count, queue->desks,
-                                   queue->numbers, queue->boxes, queue->stamps, frame, size);
+    return kaungimewe_receive_lent(desk->own, &desk->count, desk->desks, desk->numbers, desk->boxes, desk->pasts,
+                                   desk->stamps, desk->tally, desk->heads, desk->last, desk->before, &queue->count,
+                                   queue->desks, queue->numbers, queue->boxes, queue->pasts, queue->stamps, frame,
+                                   size);
 }
 
 /* Relate: which of two executed marks was made in knowledge of the other. Refuses with 12. */
@@ -230,21 +260,41 @@ static inline kaungimewe_first_answer kaungimewe_first_apart(const kaungimewe_de
                                        a_desk, a_number, of);
 }
 
-/* Frame again: the frame of an executed mark, written as by kaungimewe_write. Refuses with 12, 13. */
+/* Frame again: the frame of an executed mark, written as by kaungimewe_write2, with the desk's own reckoning as its past
+ * count. Refuses with 12, 13. */
 static inline kaungimewe_write_answer kaungimewe_frame_again(const kaungimewe_desk *desk, uint8_t a_desk,
                                                              uint16_t a_number, uint8_t *out, size_t lent)
 {
-    return kaungimewe_frame_again_lent(desk->desks, desk->numbers, desk->boxes, desk->stamps, desk->tally, desk->last,
-                                       desk->before, a_desk, a_number, out, lent);
+    return kaungimewe_frame_again_lent(desk->desks, desk->numbers, desk->boxes, desk->pasts, desk->stamps, desk->tally,
+                                       desk->last, desk->before, a_desk, a_number, out, lent);
 }
 
-/* The writer: fields and entries (three bytes each: desk, number big-endian) become a frame in the first `size` of the
- * `lent` bytes at `out`; later bytes keep their values. Refuses with 4, 5, 6, 13. */
+/* The converter from edition 1 to 2, at a desk that has executed the frame's mark: it writes what Frame again does.
+ * Refuses with 2 to 6, 14, 12, 8, 13, in this order; a waiting mark is not executed. */
+static inline kaungimewe_write_answer kaungimewe_to2(const kaungimewe_desk *desk, const uint8_t *frame, size_t size,
+                                                     uint8_t *out, size_t lent)
+{
+    return kaungimewe_to2_lent(desk->desks, desk->numbers, desk->boxes, desk->pasts, desk->stamps, desk->tally,
+                               desk->last, desk->before, frame, size, out, lent);
+}
+
+/* The converter from edition 2 to 1, without a desk: the past count is left out and not judged. The frame is written to
+ * the first `size` of the `lent` bytes at `out`; later bytes keep their values. Refuses with 2 to 6, 14, 13, in this order.
+ */
+kaungimewe_write_answer kaungimewe_to1(const uint8_t *frame, size_t size, uint8_t *out, size_t lent);
+
+/* The writer of edition 1: fields and entries (three bytes each: desk, number big-endian) become a frame in the first
+ * `size` of the `lent` bytes at `out`; later bytes keep their values. Refuses with 4, 5, 6, 13. */
 kaungimewe_write_answer kaungimewe_write(uint8_t desk, uint16_t number, uint32_t start, uint32_t end, uint32_t low,
                                          uint32_t high, const uint8_t *entries, size_t entries_size, uint8_t *out,
                                          size_t lent);
 
-/* The reader: the fields of a frame. Refuses with 2 to 6. */
+/* The writer of edition 2: likewise, with the past count, which is not judged here. Refuses with 4, 5, 6, 13. */
+kaungimewe_write_answer kaungimewe_write2(uint8_t desk, uint16_t number, uint32_t start, uint32_t end, uint32_t low,
+                                          uint32_t high, uint16_t past, const uint8_t *entries, size_t entries_size,
+                                          uint8_t *out, size_t lent);
+
+/* The reader: the fields of a frame of either edition. Refuses with 2 to 6. */
 kaungimewe_read_answer kaungimewe_read(const uint8_t *frame, size_t size);
 
 #ifdef __cplusplus

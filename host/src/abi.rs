@@ -20,6 +20,7 @@ pub(crate) struct Waiting {
     pub desks: [u8; WAITING],
     pub numbers: [u16; WAITING],
     pub boxes: [u32; WAITING * BOX],
+    pub pasts: [u16; WAITING],
     pub stamps: [u16; WAITING * DESKS],
 }
 
@@ -31,6 +32,7 @@ pub(crate) struct Desk {
     pub desks: [u8; PLACES],
     pub numbers: [u16; PLACES],
     pub boxes: [u32; PLACES * BOX],
+    pub pasts: [u16; PLACES],
     pub stamps: [u16; PLACES * DESKS],
     pub tally: [u16; DESKS],
     pub heads: [u16; DESKS],
@@ -40,7 +42,7 @@ pub(crate) struct Desk {
 }
 
 const _: () = assert!(size_of::<MarkBox>() == 16 && size_of::<MarkId>() == 4);
-const _: () = assert!(size_of::<Waiting>() == 3272 && size_of::<Desk>() == 30520);
+const _: () = assert!(size_of::<Waiting>() == 3400 && size_of::<Desk>() == 31672);
 
 #[repr(C)]
 pub(crate) struct NewAnswer {
@@ -94,8 +96,12 @@ pub(crate) struct ReadAnswer {
     pub desk: u8,
     pub number: u16,
     pub extent: MarkBox,
+    pub edition: u8,
+    pub past: u16,
     pub entries_size: usize,
 }
+
+const _: () = assert!(size_of::<ReadAnswer>() == 32);
 
 // What each call asks of its caller: that all it is lent of a desk is of one desk as New and the calls gave it, and that
 // a pointer is good for so many bytes or names.
@@ -108,6 +114,7 @@ extern "C" {
         desks: &mut [u8; PLACES],
         numbers: &mut [u16; PLACES],
         boxes: &mut [u32; PLACES * BOX],
+        pasts: &mut [u16; PLACES],
         stamps: &mut [u16; PLACES * DESKS],
         tally: &mut [u16; DESKS],
         heads: &mut [u16; DESKS],
@@ -128,6 +135,7 @@ extern "C" {
         desks: &mut [u8; PLACES],
         numbers: &mut [u16; PLACES],
         boxes: &mut [u32; PLACES * BOX],
+        pasts: &mut [u16; PLACES],
         stamps: &mut [u16; PLACES * DESKS],
         tally: &mut [u16; DESKS],
         heads: &mut [u16; DESKS],
@@ -137,6 +145,7 @@ extern "C" {
         wdesks: &mut [u8; WAITING],
         wnumbers: &mut [u16; WAITING],
         wboxes: &mut [u32; WAITING * BOX],
+        wpasts: &mut [u16; WAITING],
         wstamps: &mut [u16; WAITING * DESKS],
         frame: *const u8,
         size: usize,
@@ -185,6 +194,7 @@ extern "C" {
         desks: &[u8; PLACES],
         numbers: &[u16; PLACES],
         boxes: &[u32; PLACES * BOX],
+        pasts: &[u16; PLACES],
         stamps: &[u16; PLACES * DESKS],
         tally: &[u16; DESKS],
         last: &[u16; DESKS],
@@ -195,6 +205,23 @@ extern "C" {
         lent: usize,
     ) -> WriteAnswer;
 
+    pub(crate) fn kaungimewe_to2_lent(
+        desks: &[u8; PLACES],
+        numbers: &[u16; PLACES],
+        boxes: &[u32; PLACES * BOX],
+        pasts: &[u16; PLACES],
+        stamps: &[u16; PLACES * DESKS],
+        tally: &[u16; DESKS],
+        last: &[u16; DESKS],
+        before: &[u16; PLACES],
+        frame: *const u8,
+        size: usize,
+        out: *mut u8,
+        lent: usize,
+    ) -> WriteAnswer;
+
+    pub(crate) fn kaungimewe_to1(frame: *const u8, size: usize, out: *mut u8, lent: usize) -> WriteAnswer;
+
     pub(crate) fn kaungimewe_write(
         desk: u8,
         number: u16,
@@ -202,6 +229,20 @@ extern "C" {
         end: u32,
         low: u32,
         high: u32,
+        entries: *const u8,
+        entries_size: usize,
+        out: *mut u8,
+        lent: usize,
+    ) -> WriteAnswer;
+
+    pub(crate) fn kaungimewe_write2(
+        desk: u8,
+        number: u16,
+        start: u32,
+        end: u32,
+        low: u32,
+        high: u32,
+        past: u16,
         entries: *const u8,
         entries_size: usize,
         out: *mut u8,

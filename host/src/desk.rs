@@ -2,7 +2,7 @@
 use std::fmt;
 
 use crate::abi;
-use crate::{Mark, MarkBox, MarkId, Marked, Reception, Refusal, Relation};
+use crate::{Mark, MarkBox, MarkId, Marked, PastCount, Reception, Refusal, Relation};
 
 /// A desk: it numbers the marks made there, executes those of other desks in causal order, and relates them.
 ///
@@ -10,7 +10,7 @@ use crate::{Mark, MarkBox, MarkId, Marked, Reception, Refusal, Relation};
 /// altered otherwise, so what is proved of the calls holds of every value of this type.
 ///
 /// The calls work on the desk in place and need under 5 KiB of stack; [`Desk::new`] needs room for a few copies of a
-/// desk's 30 KiB.
+/// desk's 31 KiB.
 pub struct Desk {
     raw: Box<abi::Desk>,
 }
@@ -32,11 +32,12 @@ impl Desk {
         Ok(Desk { raw: Box::new(answer.desk) })
     }
 
-    /// Mark: the box becomes this desk's next mark, stamped with the heads and executed. Its frame is written to the
-    /// first of the lent bytes; later bytes keep their values. Refuses with 5, 9 and 13.
+    /// Mark: the box becomes this desk's next mark, stamped with the heads and executed. Its frame, of edition 2, is
+    /// written to the first of the lent bytes; later bytes keep their values. Refuses with 5, 9 and 13.
     pub fn mark(&mut self, extent: MarkBox, out: &mut [u8]) -> Result<Marked, Refusal> {
         let MarkBox { start, end, low, high } = extent;
-        let abi::Desk { own, count, desks, numbers, boxes, stamps, tally, heads, last, before, queue } = &mut *self.raw;
+        let abi::Desk { own, count, desks, numbers, boxes, pasts, stamps, tally, heads, last, before, queue } =
+            &mut *self.raw;
         // SAFETY: all that is lent is of one desk that came from the calls; the pointer is good for the lent length,
         // and `out` overlaps nothing.
         let answer = unsafe {
@@ -46,6 +47,7 @@ impl Desk {
                 desks,
                 numbers,
                 boxes,
+                pasts,
                 stamps,
                 tally,
                 heads,
@@ -64,8 +66,8 @@ impl Desk {
         Ok(Marked { number: answer.number, size: answer.size })
     }
 
-    /// Receive: the frame's mark is known, set waiting, short of so many marks, or executed; an executed mark releases
-    /// the waiting ones that have become ready. Refuses with 2 to 11.
+    /// Receive: the mark of a frame, of either edition, is known, set waiting, short of so many marks, or executed; an
+    /// executed mark releases the waiting ones that have become ready. Refuses with 2 to 11.
     pub fn receive(&mut self, frame: &[u8]) -> Result<Reception, Refusal> {
         let answer = self.receive_lent(frame);
         Refusal::check(answer.refusal)?;
@@ -77,7 +79,8 @@ impl Desk {
     }
 
     fn receive_lent(&mut self, frame: &[u8]) -> abi::ReceiveAnswer {
-        let abi::Desk { own, count, desks, numbers, boxes, stamps, tally, heads, last, before, queue } = &mut *self.raw;
+        let abi::Desk { own, count, desks, numbers, boxes, pasts, stamps, tally, heads, last, before, queue } =
+            &mut *self.raw;
         // SAFETY: all that is lent is of one desk that came from the calls; the pointer is good for the frame's length.
         unsafe {
             abi::kaungimewe_receive_lent(
@@ -86,6 +89,7 @@ impl Desk {
                 desks,
                 numbers,
                 boxes,
+                pasts,
                 stamps,
                 tally,
                 heads,
@@ -95,6 +99,7 @@ impl Desk {
                 &mut queue.desks,
                 &mut queue.numbers,
                 &mut queue.boxes,
+                &mut queue.pasts,
                 &mut queue.stamps,
                 frame.as_ptr(),
                 frame.len(),
@@ -143,15 +148,32 @@ impl Desk {
         Ok(answer.number)
     }
 
-    /// Frame again: the frame of an executed mark, to the first of the lent bytes; later bytes keep their values.
-    /// Answers its size. Refuses with 12 and 13.
+    /// Frame again: the frame of an executed mark, of edition 2, to the first of the lent bytes; later bytes keep their
+    /// values. Answers its size. Refuses with 12 and 13.
     pub fn frame_again(&self, a: MarkId, out: &mut [u8]) -> Result<usize, Refusal> {
-        let abi::Desk { desks, numbers, boxes, stamps, tally, last, before, .. } = &*self.raw;
+        let abi::Desk { desks, numbers, boxes, pasts, stamps, tally, last, before, .. } = &*self.raw;
         let ((a, n), (lent, room)) = ((a.desk, a.number), (out.as_mut_ptr(), out.len()));
         // SAFETY: all that is lent is of one desk that came from the calls; the pointer is good for the lent length,
         // and `out` overlaps nothing.
         let answer = unsafe {
-            abi::kaungimewe_frame_again_lent(desks, numbers, boxes, stamps, tally, last, before, a, n, lent, room)
+            abi::kaungimewe_frame_again_lent(
+                desks, numbers, boxes, pasts, stamps, tally, last, before, a, n, lent, room,
+            )
+        };
+        Refusal::check(answer.refusal)?;
+        Ok(answer.size)
+    }
+
+    /// The converter from edition 1 to 2, of a mark executed here: its frame with the past count, as Frame again writes
+    /// it, to the first of the lent bytes; later bytes keep their values. Answers its size. Refuses with 2 to 6, 14, 12,
+    /// 8 and 13, in this order. From 2 to 1 no desk is needed: [`to1`](crate::to1).
+    pub fn to2(&self, frame: &[u8], out: &mut [u8]) -> Result<usize, Refusal> {
+        let abi::Desk { desks, numbers, boxes, pasts, stamps, tally, last, before, .. } = &*self.raw;
+        let ((frame, size), (lent, room)) = ((frame.as_ptr(), frame.len()), (out.as_mut_ptr(), out.len()));
+        // SAFETY: all that is lent is of one desk that came from the calls; both pointers are good for their lengths,
+        // and `out` overlaps nothing.
+        let answer = unsafe {
+            abi::kaungimewe_to2_lent(desks, numbers, boxes, pasts, stamps, tally, last, before, frame, size, lent, room)
         };
         Refusal::check(answer.refusal)?;
         Ok(answer.size)
@@ -167,16 +189,16 @@ impl Desk {
         self.raw.count
     }
 
-    /// The executed marks, by place.
+    /// The executed marks, by place, each with its past count.
     pub fn executed(&self) -> Vec<Mark> {
-        let abi::Desk { desks, numbers, boxes, stamps, .. } = &*self.raw;
-        (0..self.raw.count).map(|place| mark_at(desks, numbers, boxes, stamps, place)).collect()
+        let abi::Desk { desks, numbers, boxes, pasts, stamps, .. } = &*self.raw;
+        (0..self.raw.count).map(|place| mark_at(desks, numbers, boxes, pasts, stamps, place)).collect()
     }
 
-    /// The waiting marks, in order of arrival.
+    /// The waiting marks, in order of arrival, each with the past count that its frame says, if any.
     pub fn waiting(&self) -> Vec<Mark> {
-        let abi::Waiting { count, desks, numbers, boxes, stamps } = &self.raw.queue;
-        (0..*count).map(|place| mark_at(desks, numbers, boxes, stamps, place)).collect()
+        let abi::Waiting { count, desks, numbers, boxes, pasts, stamps } = &self.raw.queue;
+        (0..*count).map(|place| mark_at(desks, numbers, boxes, pasts, stamps, place)).collect()
     }
 
     /// What the desk is now, to compare with later.
@@ -186,15 +208,16 @@ impl Desk {
 }
 
 /// The mark at a place of the executed marks' arrays, or of the waiting ones'. Its stamp is a row: at index d − 1 the
-/// number that it names of desk d, or 0.
-fn mark_at(desks: &[u8], numbers: &[u16], boxes: &[u32], stamps: &[u16], place: usize) -> Mark {
+/// number that it names of desk d, or 0. Its past is one more than the count, or 0 where that is not said.
+fn mark_at(desks: &[u8], numbers: &[u16], boxes: &[u32], pasts: &[u16], stamps: &[u16], place: usize) -> Mark {
     let id = MarkId::new(desks[place], numbers[place]);
     let values = &boxes[place * abi::BOX..][..abi::BOX];
     let extent = MarkBox::new(values[0], values[1], values[2], values[3]);
+    let past = pasts[place].checked_sub(1).map_or(PastCount::Unsaid, PastCount::Said);
     let row = &stamps[place * abi::DESKS..][..abi::DESKS];
     let entries = (1..).zip(row).filter(|(_, &number)| number > 0);
     let stamp = entries.map(|(desk, &number)| MarkId::new(desk, number)).collect();
-    Mark { id, extent, stamp }
+    Mark { id, extent, past, stamp }
 }
 
 impl fmt::Debug for Desk {

@@ -24,8 +24,11 @@
 //! # }
 //! ```
 //!
+//! Frames have two editions. Edition 2, which desks write, says a mark's past count, the number of marks that precede it;
+//! desks read both. [`writer`] writes either, [`Desk::to2`] and [`to1`] turn one into the other.
+//!
 //! The calls are functions of the proved crate `abi`, linked as a static library; this crate adds types and no logic.
-//! Terms are those of document 01, the customer's text.
+//! Terms are those of documents 01 and 02, the customer's texts.
 #![deny(missing_docs)]
 
 mod abi;
@@ -36,8 +39,8 @@ pub mod peers;
 mod refusal;
 
 pub use desk::{Desk, Snapshot};
-pub use frame::{reader, writer, Fields, HEAD, LARGEST_FRAME};
-pub use marks::{Mark, MarkBox, MarkId, Marked, Reception, Relation};
+pub use frame::{reader, to1, writer, Fields, HEAD, HEAD2, LARGEST_FRAME, PASTS};
+pub use marks::{Mark, MarkBox, MarkId, Marked, PastCount, Reception, Relation};
 pub use refusal::Refusal;
 
 /// Desks are numbered 1 to 16; a stamp has at most so many entries.

@@ -45,13 +45,24 @@ impl MarkBox {
     }
 }
 
-/// A mark with its box and its stamp, which names its direct predecessors by rising desk.
+/// What is said of a mark's past count, the number of marks that precede it. It tells the edition of a frame.
+#[derive(Clone, Copy, Debug, PartialEq, Eq, PartialOrd, Ord, Hash)]
+pub enum PastCount {
+    /// Nothing, in a frame of edition 1 and of a waiting mark that came in one.
+    Unsaid,
+    /// So many, 0 to 511, in a frame of edition 2 and of every executed mark.
+    Said(u16),
+}
+
+/// A mark with its box, its past count and its stamp, which names its direct predecessors by rising desk.
 #[derive(Clone, Debug, PartialEq, Eq, PartialOrd, Ord, Hash)]
 pub struct Mark {
     /// Its name.
     pub id: MarkId,
     /// Its box.
     pub extent: MarkBox,
+    /// Its past count: the desk's own reckoning of an executed mark, of a waiting one what its frame says.
+    pub past: PastCount,
     /// The entries of its stamp.
     pub stamp: Vec<MarkId>,
 }
@@ -61,14 +72,15 @@ pub struct Mark {
 pub struct Marked {
     /// The number of the new mark at its desk.
     pub number: u16,
-    /// The size of its frame: so many of the lent bytes were written.
+    /// The size of its frame, of edition 2: so many of the lent bytes were written.
     pub size: usize,
 }
 
 /// What Receive answers.
 #[derive(Clone, Copy, Debug, PartialEq, Eq)]
 pub enum Reception {
-    /// The mark was executed or waiting here, with the same bytes.
+    /// The mark was executed or waiting here with the same fields, the past counts compared where both have one. The
+    /// desk is as it was: a waiting mark takes no past count from a later frame.
     Known,
     /// The mark waits: marks that it follows directly are not executed here yet.
     Waiting {

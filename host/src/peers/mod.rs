@@ -26,12 +26,14 @@ pub trait Engine: Sized {
     fn first_apart(&self, a: MarkId, desk: u8) -> Result<u16, Refusal>;
 }
 
-/// An engine with document 01's frames and stamps, whose whole desk can be compared.
+/// An engine with the documents' frames and stamps, whose whole desk can be compared.
 pub trait Stamped: Engine {
     /// A desk at some moment.
     type Snapshot: PartialEq;
     /// Frame again.
     fn frame_again(&self, a: MarkId, out: &mut [u8]) -> Result<usize, Refusal>;
+    /// The converter from edition 1 to 2.
+    fn to2(&self, frame: &[u8], out: &mut [u8]) -> Result<usize, Refusal>;
     /// The executed marks, by place.
     fn executed(&self) -> Vec<Mark>;
     /// The waiting marks, in order of arrival.
@@ -65,6 +67,9 @@ impl Stamped for Desk {
     type Snapshot = Snapshot;
     fn frame_again(&self, a: MarkId, out: &mut [u8]) -> Result<usize, Refusal> {
         Desk::frame_again(self, a, out)
+    }
+    fn to2(&self, frame: &[u8], out: &mut [u8]) -> Result<usize, Refusal> {
+        Desk::to2(self, frame, out)
     }
     fn executed(&self) -> Vec<Mark> {
         Desk::executed(self)

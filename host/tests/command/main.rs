@@ -41,6 +41,7 @@ fn examples_are_answered_as_stored() {
     assert_eq!(printed(&["run", "--explain", "refusals.txt"], ""), stored("refusals.out"));
     assert_eq!(printed(&["run", "waiting.txt"], ""), stored("waiting.out"));
     assert_eq!(printed(&["run", "clicks.txt"], ""), stored("clicks.out"));
+    assert_eq!(printed(&["run", "editions.txt"], ""), stored("editions.out"));
 }
 
 #[test]
@@ -56,6 +57,7 @@ fn refusals_are_numbers_unless_explained() {
     assert_eq!(printed(&["run"], "new 17\n"), "refused 1\n");
     assert_eq!(printed(&["run", "--explain"], "new 17\n"), "refused 1: desk not 1 to 16\n");
     assert_eq!(printed(&["run"], "new 300\nnew 99999999999999999999\n"), "refused 1\nrefused 1\n");
+    assert_eq!(printed(&["run"], "write2 1 1 0 1 2 3 65536 -\n"), "refused 5\n");
 }
 
 #[test]
@@ -65,6 +67,8 @@ fn a_wrong_line_stops_the_run() {
         ("# none\n\nfly 1\nnew 1\n", "", "line 3: `fly` is not a call\n"),
         ("new 1\nlist 2\n", "desk 1\n", "line 2: there is no such desk: `new` has not made it\n"),
         ("new 1\nhand 2 1.1\n", "desk 1\n", "line 2: there is no such desk: `new` has not made it\n"),
+        ("new 1\nhand1 2 1.1\n", "desk 1\n", "line 2: there is no such desk: `new` has not made it\n"),
+        ("new 1\nto2 2 -\n", "desk 1\n", "line 2: there is no such desk: `new` has not made it\n"),
         ("read 0g\n", "", "line 1: HEX `0g` is not whole bytes in hex, nor `-`\n"),
         ("mark 1 0 1 2 3", "", "line 1: there is no such desk: `new` has not made it\n"),
     ] {
@@ -102,9 +106,8 @@ fn help_names_every_call_and_refusal() {
         assert!(tool.contains(&format!("./kaungimewe {command}")), "{command}");
     }
     let help = printed(&["run", "--help"], "");
-    let calls =
-        ["new", "mark", "receive", "hand", "relate", "apart", "first", "frame", "list", "held", "read", "write"];
-    for call in calls {
+    let calls = ["new", "mark", "receive", "hand", "hand1", "relate", "apart", "first", "frame", "list", "held"];
+    for call in calls.iter().chain(&["read", "write", "write2", "to2", "to1"]) {
         assert!(help.contains(&format!("\n  {call} ")), "{call}");
     }
     for refusal in kaungimewe::Refusal::ALL {
@@ -123,6 +126,20 @@ fn the_picture_of_the_scenario() {
     assert_eq!(waiting.matches("<g class=\"waiting\">").count(), 2, "the hollow box and its sample");
 }
 
+/// Of a waiting mark it is what its frame says, which edition 1 does not.
+#[test]
+fn the_picture_tells_past_counts() {
+    let script = "new 1\nnew 2\nmark 1 0 1 0 1\nmark 1 0 1 0 1\n";
+    let told = |by: &str, word: &str| {
+        let picture = printed(&["draw"], &format!("{script}{by}"));
+        let title = format!("<title>1.2: 0 to 1 ms, 0 to 1 Hz; entries: 1.1; past count: {word}</title>");
+        picture.matches(&title).count()
+    };
+    assert_eq!((told("hand 2 1.2\n", "1"), told("hand 2 1.2\n", "not said")), (2, 0));
+    assert_eq!((told("hand1 2 1.2\n", "1"), told("hand1 2 1.2\n", "not said")), (1, 1));
+    assert_eq!((told("hand1 2 1.2\nhand1 2 1.1\n", "1"), told("hand1 2 1.2\nhand1 2 1.1\n", "not said")), (2, 0));
+}
+
 /// The widths of a picture's boxes, samples last.
 fn widths(picture: &str) -> Vec<&str> {
     picture.split("class=\"box\"").skip(1).filter_map(|rest| rest.split('"').nth(5)).collect()
@@ -133,8 +150,8 @@ fn widths(picture: &str) -> Vec<&str> {
 fn the_picture_of_a_click() {
     let boxed = |end| printed(&["draw"], &format!("new 1\nnew 16\nmark 1 1000 {end} 100 400\nhand 16 1.1\n"));
     let (click, call) = (boxed(1000), boxed(1001));
-    assert_eq!(click.matches("<title>1.1: at 1000 ms, 100 to 400 Hz; entries: none</title>").count(), 2);
-    assert_eq!(call.matches("<title>1.1: 1000 to 1001 ms, 100 to 400 Hz; entries: none</title>").count(), 2);
+    assert_eq!(click.matches("<title>1.1: at 1000 ms, 100 to 400 Hz; entries: none;").count(), 2);
+    assert_eq!(call.matches("<title>1.1: 1000 to 1001 ms, 100 to 400 Hz; entries: none;").count(), 2);
     assert_eq!(widths(&click), ["24", "24", "40", "40", "40", "24"]);
     assert_eq!(widths(&call), ["50", "44", "40", "40", "40"]);
     assert_eq!((click.matches(">a click<").count(), call.matches("click").count()), (2, 0));

@@ -1,8 +1,9 @@
-//! How often Receive has given each answer.
+//! How often Receive and the converter have given each answer.
 use kaungimewe::{Reception, Refusal};
 
 /// Frames received, by answer: known, waiting, executed, and the refusals by number. Of the waiting ones how many were
-/// short of more than one mark, and the most that one was short of. Marks released and dropped besides.
+/// short of more than one mark, and the most that one was short of. Marks released and dropped besides. Frames converted,
+/// and those that were not, by the refusal's number.
 #[derive(Clone, Copy, Debug, Default)]
 pub struct Answers {
     pub frames: usize,
@@ -13,7 +14,9 @@ pub struct Answers {
     pub executed: usize,
     pub released: usize,
     pub dropped: usize,
-    pub refused: [usize; 14],
+    pub refused: [usize; 15],
+    pub converted: usize,
+    pub not_converted: [usize; 15],
 }
 
 impl Answers {
@@ -35,11 +38,20 @@ impl Answers {
         }
     }
 
+    pub fn count_conversion(&mut self, answer: &Result<Vec<u8>, Refusal>) {
+        match answer {
+            Ok(_) => self.converted += 1,
+            Err(refusal) => self.not_converted[usize::from(refusal.number())] += 1,
+        }
+    }
+
     /// Every answer of Receive was given: refusals 2 to 11, and those that are none, Waiting with more than one mark
-    /// missing among them.
+    /// missing among them; and every one of the converter: refusals 2 to 6, 8 and 12 to 14, and a frame.
     pub fn all_given(&self) -> bool {
         let others = [self.known, self.waiting, self.short_of_more, self.executed, self.released, self.dropped];
-        others.iter().chain(&self.refused[2..=11]).all(|&count| count > 0)
+        let received = others.iter().chain(&self.refused[2..=11]).all(|&count| count > 0);
+        let refusals = (2..=6).chain([8]).chain(12..=14);
+        received && self.converted > 0 && refusals.into_iter().all(|number| self.not_converted[number] > 0)
     }
 }
 
@@ -55,6 +67,8 @@ impl std::iter::Sum for Answers {
             sum.released += a.released;
             sum.dropped += a.dropped;
             sum.refused.iter_mut().zip(a.refused).for_each(|(sum, count)| *sum += count);
+            sum.converted += a.converted;
+            sum.not_converted.iter_mut().zip(a.not_converted).for_each(|(sum, count)| *sum += count);
             sum
         })
     }

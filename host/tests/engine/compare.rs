@@ -1,10 +1,11 @@
-//! What is compared after each sequence: lists, waiting sets, stamps, relations, Apart, First apart and frames.
+//! What is compared after each sequence: lists, waiting sets, stamps, past counts, relations, Apart, First apart, frames
+//! and their conversions.
 use kaungimewe::peers::draws::Draws;
 use kaungimewe::peers::model::codec;
 use kaungimewe::peers::{Engine, Stamped};
 use kaungimewe::{Mark, MarkId, LARGEST_FRAME, PLACES};
 
-use crate::pair::{Pair, FILL};
+use crate::pair::{both, edition1, Pair};
 
 /// Up to so many names are asked of; of more, so many drawn ones.
 const ASKED: usize = 72;
@@ -65,11 +66,12 @@ impl<E: Stamped> Pair<E> {
         }
     }
 
+    /// Frame again writes edition 2; to edition 1, and at this desk back to 2, it is the same frame.
     fn compare_frame(&self, a: MarkId) {
-        let (mut expected, mut found) = ([FILL; LARGEST_FRAME], [FILL; LARGEST_FRAME]);
-        let size = self.model.frame_again(a, &mut expected);
-        assert_eq!(self.engine.frame_again(a, &mut found), size, "frame again {a}");
-        assert_eq!(found, expected, "frame again {a}");
+        let (model, engine) = (&self.model, &self.engine);
+        let frame = both(LARGEST_FRAME, |out| model.frame_again(a, out), |out| engine.frame_again(a, out));
+        let Ok(frame) = frame else { return };
+        assert_eq!(self.to2(&edition1(&frame), LARGEST_FRAME), Ok(frame), "{a} to edition 1 and back");
     }
 }
 

@@ -1,18 +1,22 @@
-//! Damaged frames: every byte altered, cut and lengthened, at a desk that already has some marks.
+//! Damaged frames of both editions: every byte altered, cut and lengthened, at a desk that already has some marks.
 use kaungimewe::peers::draws::Draws;
 use kaungimewe::peers::model::codec;
 use kaungimewe::peers::Stamped;
-use kaungimewe::{reader, Mark};
+use kaungimewe::{reader, writer, Mark, PastCount, LARGEST_FRAME};
 
 use crate::answers::Answers;
-use crate::pair::Pair;
+use crate::pair::{edition1, to1, Pair};
 
 /// A random sequence: what Receive answered.
 pub fn sequence<E: Stamped>(draws: &mut Draws) -> Answers {
     let (mut desk, frame) = prepared::<E>(draws);
+    let frame = if draws.percent(50) { edition1(&frame) } else { frame };
     for damaged in damages(&frame, draws) {
         compare_readers(&damaged);
         let _ = desk.receive(&damaged);
+        for converted in [desk.to2(&damaged, LARGEST_FRAME), to1(&damaged, LARGEST_FRAME)] {
+            desk.answers.count_conversion(&converted);
+        }
     }
     let _ = desk.receive(&frame);
     desk.compare(draws);
@@ -62,11 +66,15 @@ fn damages(frame: &[u8], draws: &mut Draws) -> Vec<Vec<u8>> {
     all
 }
 
-/// The engine's reader and the model's.
+/// The engine's reader and the model's. The writer, told the edition, gives accepted bytes back.
 pub fn compare_readers(frame: &[u8]) {
-    let found = reader(frame).map(|f| Mark { id: f.id, extent: f.extent, stamp: f.stamp() });
+    let fields = reader(frame);
+    let found = fields.map(|f| Mark { id: f.id, extent: f.extent, past: f.past, stamp: f.stamp() });
     assert_eq!(found, codec::read(frame), "read {frame:02X?}");
-    if let Ok(fields) = reader(frame) {
-        assert_eq!(fields.entries.as_ptr(), frame[23..].as_ptr(), "the entries are that part of the lent frame");
-    }
+    let Ok(fields) = fields else { return };
+    let head = if fields.past == PastCount::Unsaid { 23 } else { 25 };
+    assert_eq!(fields.entries.as_ptr(), frame[head..].as_ptr(), "the entries are that part of the lent frame");
+    let mut again = vec![0; frame.len()];
+    assert_eq!(writer(fields, &mut again), Ok(frame.len()));
+    assert_eq!(again, frame);
 }

@@ -1,15 +1,22 @@
-//! Every example of document 01, starred and unstarred, with the answers that it gives; start = end is in clicks.rs.
-use kaungimewe::peers::model::codec;
+//! Every example of document 01, starred and unstarred, with the answers that it gives, lent bytes of Mark as document 02
+//! has them; start = end is in clicks.rs.
 use kaungimewe::peers::Engine;
-use kaungimewe::{reader, writer, Desk, Fields, Mark, MarkBox, MarkId, Reception, Refusal, Relation};
+use kaungimewe::{
+    reader, writer, Desk, Fields, MarkBox, MarkId, PastCount, Reception, Refusal, Relation, LARGEST_FRAME,
+};
 
 use crate::damaged::compare_readers;
 use crate::full::chained;
-use crate::pair::{executed, waiting, Pair};
+use crate::pair::{edition1, executed, waiting, Pair};
+use crate::pinned::{frame, BOX};
 
-const BOX: MarkBox = MarkBox { start: 1_000, end: 1_500, low: 100, high: 400 };
+/// The frame of 1.2, of edition 1.
+pub const FRAME: [u8; 32] = [
+    0x00, 0x1E, 0x01, 0x01, 0x00, 0x02, 0x00, 0x00, 0x03, 0xE8, 0x00, 0x00, 0x05, 0xDC, 0x00, 0x00, 0x00, 0x64, 0x00,
+    0x00, 0x01, 0x90, 0x03, 0x01, 0x00, 0x01, 0x02, 0x00, 0x01, 0x03, 0x00, 0x01,
+];
 
-fn id(desk: u8, number: u16) -> MarkId {
+pub fn id(desk: u8, number: u16) -> MarkId {
     MarkId::new(desk, number)
 }
 
@@ -18,8 +25,8 @@ fn stamp(frame: &[u8]) -> Vec<MarkId> {
 }
 
 /// The frames of the scenario, and its desks 1 to 4.
-struct Scenario {
-    desks: Vec<Pair<Desk>>,
+pub struct Scenario {
+    pub desks: Vec<Pair<Desk>>,
     frames: Vec<(MarkId, Vec<u8>)>,
 }
 
@@ -32,12 +39,12 @@ impl Scenario {
         &mut self.desks[usize::from(desk) - 1]
     }
 
-    fn frame(&self, mark: MarkId) -> Vec<u8> {
+    pub fn frame(&self, mark: MarkId) -> Vec<u8> {
         self.frames.iter().find(|(name, _)| *name == mark).expect("it is made").1.clone()
     }
 
     fn mark(&mut self, mark: MarkId) {
-        let (made, frame) = self.desk(mark.desk).mark(BOX, 71).expect("room for a mark");
+        let (made, frame) = self.desk(mark.desk).mark(BOX, LARGEST_FRAME).expect("room for a mark");
         assert_eq!(made.number, mark.number);
         self.frames.push((mark, frame));
     }
@@ -56,7 +63,7 @@ impl Scenario {
 }
 
 /// All seven marks made; desk 3 has all of them.
-fn scenario() -> Scenario {
+pub fn scenario() -> Scenario {
     let mut s = Scenario::new();
     for mark in [id(1, 1), id(2, 1), id(3, 1), id(3, 2)] {
         s.mark(mark);
@@ -103,7 +110,7 @@ fn apart_and_relations_of_the_scenario() {
 
 #[test]
 fn false_stamp_is_dropped_or_refused() {
-    let lie = codec::frame_of(&Mark { id: id(1, 2), extent: BOX, stamp: Vec::new() });
+    let lie = frame(1, 2, &[]);
     let mut desk = Pair::<Desk>::new(2);
     assert_eq!(desk.receive(&lie), waiting(1));
     assert_eq!(desk.receive(&chained(1, 1)), executed(1, 1));
@@ -112,26 +119,24 @@ fn false_stamp_is_dropped_or_refused() {
 
 #[test]
 fn bytes_of_a_frame() {
-    let frame = [
-        0x00, 0x1E, 0x01, 0x01, 0x00, 0x02, 0x00, 0x00, 0x03, 0xE8, 0x00, 0x00, 0x05, 0xDC, 0x00, 0x00, 0x00, 0x64,
-        0x00, 0x00, 0x01, 0x90, 0x03, 0x01, 0x00, 0x01, 0x02, 0x00, 0x01, 0x03, 0x00, 0x01,
-    ];
-    assert_eq!(scenario().frame(id(1, 2)), frame);
+    assert_eq!(edition1(&scenario().frame(id(1, 2))), FRAME);
     let mut out = [0; 32];
-    assert_eq!(writer(reader(&frame).expect("a frame"), &mut out), Ok(32));
-    assert_eq!(out, frame);
-    assert_eq!(reader(&frame[..22]), Err(Refusal::FrameLength));
-    (0..=32).for_each(|size| compare_readers(&frame[..size]));
+    assert_eq!(writer(reader(&FRAME).expect("a frame"), &mut out), Ok(32));
+    assert_eq!(out, FRAME);
+    assert_eq!(reader(&FRAME[..22]), Err(Refusal::FrameLength));
+    (0..=32).for_each(|size| compare_readers(&FRAME[..size]));
 }
 
 #[test]
 fn ranges_of_fields() {
-    let mut out = [0; 71];
-    let mut write = |number, extent| writer(Fields { id: id(1, number), extent, entries: &[] }, &mut out);
-    assert_eq!(write(512, BOX), Ok(23));
-    assert_eq!(write(513, BOX), Err(Refusal::FieldRange));
-    assert_eq!(write(0, BOX), Err(Refusal::FieldRange));
-    assert_eq!(write(1, MarkBox { low: 400, ..BOX }), Err(Refusal::FieldRange));
+    for (past, size) in [(PastCount::Unsaid, 23), (PastCount::Said(0), 25)] {
+        let mut out = [0; LARGEST_FRAME];
+        let mut write = |number, extent| writer(Fields { id: id(1, number), extent, past, entries: &[] }, &mut out);
+        assert_eq!(write(512, BOX), Ok(size));
+        assert_eq!(write(513, BOX), Err(Refusal::FieldRange));
+        assert_eq!(write(0, BOX), Err(Refusal::FieldRange));
+        assert_eq!(write(1, MarkBox { low: 400, ..BOX }), Err(Refusal::FieldRange));
+    }
 }
 
 #[test]
@@ -146,8 +151,8 @@ fn waiting_marks_at_most() {
 #[test]
 fn lent_bytes_of_mark() {
     let mut desk = Pair::<Desk>::new(1);
-    assert_eq!(desk.mark(BOX, 22), Err(Refusal::OutputShort));
-    assert_eq!(desk.mark(BOX, 23).map(|(made, _)| (made.number, made.size)), Ok((1, 23)));
+    assert_eq!(desk.mark(BOX, 24), Err(Refusal::OutputShort));
+    assert_eq!(desk.mark(BOX, 25).map(|(made, _)| (made.number, made.size)), Ok((1, 25)));
 }
 
 #[test]

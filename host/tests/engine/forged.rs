@@ -1,14 +1,14 @@
-//! Forged frames: well-formed, with stamps that are true, false or impossible.
+//! Forged frames: well-formed, with stamps and past counts that are true, false or impossible.
 use kaungimewe::peers::draws::Draws;
 use kaungimewe::peers::model::codec;
 use kaungimewe::peers::Stamped;
-use kaungimewe::{Mark, MarkId};
+use kaungimewe::{Mark, MarkId, PastCount, Relation, LARGEST_FRAME};
 
 use crate::answers::Answers;
 use crate::network::draw_box;
-use crate::pair::Pair;
+use crate::pair::{to1, Pair};
 
-/// A random sequence at one to three desks: what Receive answered.
+/// A random sequence at one to three desks: what they answered.
 pub fn sequence<E: Stamped>(draws: &mut Draws) -> Answers {
     let makers = 1 + draws.below(16);
     let mut desks: Vec<Pair<E>> = (1..=1 + draws.below(3) as u8).map(|d| Pair::new(1 + d * 5 % 16)).collect();
@@ -16,11 +16,11 @@ pub fn sequence<E: Stamped>(draws: &mut Draws) -> Answers {
     for _ in 0..30 + draws.below(100) {
         let at = draws.below(desks.len());
         if draws.percent(8) {
-            sent.extend(desks[at].mark(draw_box(draws), 71).map(|(_, frame)| frame));
+            sent.extend(desks[at].mark(draw_box(draws), LARGEST_FRAME).map(|(_, frame)| frame));
             continue;
         }
-        let frame = if draws.percent(15) && !sent.is_empty() {
-            draws.pick(&sent).clone()
+        let frame = if draws.percent(25) && !sent.is_empty() {
+            resend(&mut desks[at], draws.pick(&sent).clone(), draws)
         } else {
             codec::frame_of(&forge(&desks[at].model, makers, draws))
         };
@@ -33,6 +33,22 @@ pub fn sequence<E: Stamped>(draws: &mut Draws) -> Answers {
     }
     desks.iter().for_each(|desk| desk.compare(draws));
     desks.iter().map(|desk| desk.answers).sum()
+}
+
+/// A frame that was sent: as it was, of the other edition by the converter, or with what is said of its past forged anew.
+fn resend<E: Stamped>(desk: &mut Pair<E>, frame: Vec<u8>, draws: &mut Draws) -> Vec<u8> {
+    let converted = match draws.below(4) {
+        0 => desk.to2(&frame, LARGEST_FRAME),
+        1 => to1(&frame, LARGEST_FRAME),
+        2 => return frame,
+        _ => {
+            let mark = codec::read(&frame).expect("well-formed");
+            let past = forge_past(&desk.model, &mark.stamp, draws);
+            return codec::frame_of(&Mark { past, ..mark });
+        }
+    };
+    desk.answers.count_conversion(&converted);
+    converted.unwrap_or(frame)
 }
 
 /// A mark that a desk has not seen, or has seen otherwise, by what the desk has.
@@ -59,7 +75,27 @@ fn forge(desk: &impl Stamped, makers: usize, draws: &mut Draws) -> Mark {
             break drawn;
         }
     };
-    Mark { id, extent, stamp }
+    let past = forge_past(desk, &stamp, draws);
+    Mark { id, extent, past, stamp }
+}
+
+/// Nothing, or a count: what the desk reckons for such a stamp, one beside it, or any.
+fn forge_past(desk: &impl Stamped, stamp: &[MarkId], draws: &mut Draws) -> PastCount {
+    let true_count = reckoning(desk, stamp);
+    match draws.below(20) {
+        0..=8 => PastCount::Unsaid,
+        9 => PastCount::Said(true_count.saturating_sub(1)),
+        10 => PastCount::Said((true_count + 1).min(511)),
+        11 => PastCount::Said(draws.below(512) as u16),
+        _ => PastCount::Said(true_count),
+    }
+}
+
+/// How many marks of a desk are entries of a stamp or precede one.
+fn reckoning(desk: &impl Stamped, stamp: &[MarkId]) -> u16 {
+    let executed = desk.executed();
+    let precedes = |a: MarkId, e: MarkId| matches!(desk.relate(a, e), Ok(Relation::Same | Relation::Before));
+    executed.iter().filter(|mark| stamp.iter().any(|&e| precedes(mark.id, e))).count() as u16
 }
 
 fn last_number(marks: &[Mark], desk: u8) -> u16 {
@@ -72,7 +108,7 @@ fn true_stamp(desk: &impl Stamped, executed: &[Mark], id: MarkId, draws: &mut Dr
     let previous = |a: MarkId| a.desk == id.desk && a.number + 1 == id.number;
     let mut chosen: Vec<MarkId> = executed.iter().map(|m| m.id).filter(|&a| a.desk != id.desk || previous(a)).collect();
     chosen.retain(|&a| previous(a) || draws.percent(share));
-    let before = |a: MarkId, b: MarkId| desk.relate(a, b) == Ok(kaungimewe::Relation::Before);
+    let before = |a: MarkId, b: MarkId| desk.relate(a, b) == Ok(Relation::Before);
     chosen.iter().copied().filter(|&a| !chosen.iter().any(|&b| before(a, b))).collect()
 }
 

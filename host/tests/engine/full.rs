@@ -2,15 +2,26 @@
 use kaungimewe::peers::draws::Draws;
 use kaungimewe::peers::model::codec;
 use kaungimewe::peers::{Engine, Stamped};
-use kaungimewe::{Desk, Mark, MarkBox, MarkId, Reception, Refusal};
+use kaungimewe::{reader, Desk, Mark, MarkBox, MarkId, PastCount, Reception, Refusal, LARGEST_FRAME};
 
 use crate::answers::Answers;
-use crate::pair::{executed, waiting, Pair};
+use crate::pair::{edition1, executed, waiting, Pair};
 
-/// The frame of mark d.n that follows nothing but d.(n − 1).
+/// The frame of mark d.n that follows nothing but d.(n − 1), of edition 2.
 pub fn chained(desk: u8, number: u16) -> Vec<u8> {
+    let (id, extent) = (MarkId::new(desk, number), MarkBox::new(1, 2, 3, 4));
     let stamp = if number > 1 { vec![MarkId::new(desk, number - 1)] } else { Vec::new() };
-    codec::frame_of(&Mark { id: MarkId::new(desk, number), extent: MarkBox::new(1, 2, 3, 4), stamp })
+    codec::frame_of(&Mark { id, extent, past: PastCount::Said(number - 1), stamp })
+}
+
+/// The same of either edition.
+fn chained_in_either(desk: u8, number: u16, draws: &mut Draws) -> Vec<u8> {
+    let frame = chained(desk, number);
+    if draws.percent(50) {
+        edition1(&frame)
+    } else {
+        frame
+    }
 }
 
 /// A random sequence that ends with a full desk: what Receive answered.
@@ -21,7 +32,7 @@ pub fn sequence<E: Stamped>(draws: &mut Draws) -> Answers {
     let spare = draws.below(4);
     fill(&mut desk, &mut next, 512 - held - spare, draws);
     let late = 2 + draws.below(15);
-    let ahead = |by: usize| chained(late as u8, next[late] + by as u16);
+    let mut ahead = |by: usize| chained_in_either(late as u8, next[late] + by as u16, draws);
     for by in 1..=held {
         assert_eq!(desk.receive(&ahead(by)), waiting(1));
     }
@@ -31,11 +42,12 @@ pub fn sequence<E: Stamped>(draws: &mut Draws) -> Answers {
     for _ in 0..spare {
         desk.make();
     }
-    assert_eq!(desk.mark(MarkBox::new(1, 2, 3, 4), 71), Err(Refusal::DeskFull));
+    assert_eq!(desk.mark(MarkBox::new(1, 2, 3, 4), LARGEST_FRAME), Err(Refusal::DeskFull));
     for other in 2..=16 {
-        assert_eq!(desk.receive(&chained(other, next[usize::from(other)])), Err(Refusal::DeskFull));
+        let frame = chained_in_either(other, next[usize::from(other)], draws);
+        assert_eq!(desk.receive(&frame), Err(Refusal::DeskFull));
     }
-    assert_eq!(desk.receive(&chained(3, 1)), Ok(Reception::Known));
+    assert_eq!(desk.receive(&chained_in_either(3, 1, draws)), Ok(Reception::Known));
     desk.compare(draws);
     desk.answers
 }
@@ -47,7 +59,7 @@ fn fill<E: Stamped>(desk: &mut Pair<E>, next: &mut [u16; 17], count: usize, draw
         if maker == 1 {
             desk.make();
         } else {
-            assert_eq!(desk.receive(&chained(maker as u8, next[maker])), executed(1, 0));
+            assert_eq!(desk.receive(&chained_in_either(maker as u8, next[maker], draws)), executed(1, 0));
         }
         next[maker] += 1;
     }
@@ -55,11 +67,13 @@ fn fill<E: Stamped>(desk: &mut Pair<E>, next: &mut [u16; 17], count: usize, draw
 
 #[test]
 fn five_hundred_and_twelve_marks_of_its_own() {
-    let mut desk = Pair::<Desk>::new(7);
-    for _ in 0..512 {
-        desk.make();
+    let (mut desk, mut other) = (Pair::<Desk>::new(7), Pair::<Desk>::new(8));
+    for count in 0..512 {
+        let frame = desk.make();
+        assert_eq!(reader(&frame).map(|fields| fields.past), Ok(PastCount::Said(count)));
+        assert_eq!(other.receive(&frame), executed(1, 0));
     }
-    assert_eq!(desk.mark(MarkBox::new(1, 2, 3, 4), 71), Err(Refusal::DeskFull));
+    assert_eq!(desk.mark(MarkBox::new(1, 2, 3, 4), LARGEST_FRAME), Err(Refusal::DeskFull));
     assert_eq!(desk.receive(&chained(8, 1)), Err(Refusal::DeskFull));
     desk.compare(&mut Draws::new(1));
 }
@@ -98,14 +112,14 @@ fn freed_places_serve_again() {
     fill(&mut desk, &mut [1; 17], 448, &mut Draws::new(4));
     let last = desk.engine.executed().iter().filter(|m| m.id.desk == 2).count() as u16;
     let lie = |number| {
-        let mark = Mark { id: MarkId::new(2, number), extent: MarkBox::new(1, 2, 3, 4), stamp: Vec::new() };
-        codec::frame_of(&mark)
+        let (id, extent) = (MarkId::new(2, number), MarkBox::new(1, 2, 3, 4));
+        codec::frame_of(&Mark { id, extent, past: PastCount::Unsaid, stamp: Vec::new() })
     };
     for number in last + 2..=last + 64 {
         assert_eq!(desk.receive(&lie(number)), waiting(1));
     }
     assert_eq!(desk.receive(&chained(2, last + 1)), executed(1, 1));
     assert_eq!(desk.receive(&chained(2, last + 2)), executed(1, 1));
-    assert_eq!(desk.mark(MarkBox::new(1, 2, 3, 4), 71).map(|_| ()), Ok(()));
+    assert_eq!(desk.mark(MarkBox::new(1, 2, 3, 4), LARGEST_FRAME).map(|_| ()), Ok(()));
     desk.compare(&mut Draws::new(5));
 }

@@ -3,6 +3,7 @@ mod answers;
 mod clicks;
 mod compare;
 mod damaged;
+mod editions;
 mod examples;
 mod forged;
 mod full;

@@ -1,14 +1,15 @@
-//! Desks that exchange true frames over a network with loss, doubling and delay, held against the past of each mark.
+//! Desks that exchange true frames of both editions over a network with loss, doubling and delay, held against the past of
+//! each mark.
 use std::collections::{BTreeMap, BTreeSet};
 
 use kaungimewe::peers::draws::Draws;
 use kaungimewe::peers::Stamped;
-use kaungimewe::{Desk, Mark, MarkBox, MarkId, Refusal};
+use kaungimewe::{reader, Desk, Mark, MarkBox, MarkId, PastCount, Refusal, LARGEST_FRAME};
 
 use crate::answers::Answers;
-use crate::pair::Pair;
+use crate::pair::{edition1, to1, Pair};
 
-/// The desks, the frames made, and what is on its way: a desk's index and a frame's.
+/// The desks, the frames that Mark wrote and the converter made, and what is on its way: a desk's index and a frame's.
 struct Network<E> {
     desks: Vec<Pair<E>>,
     frames: Vec<Vec<u8>>,
@@ -17,9 +18,13 @@ struct Network<E> {
     pasts: BTreeMap<MarkId, BTreeSet<MarkId>>,
 }
 
-/// How the network treats frames, in percent; and among how many of the oldest ones it chooses the next.
+/// How the network treats frames, in percent: marks sent in edition 1 and steps that are conversions among the rest; and
+/// among how many of the oldest frames it chooses the next.
+#[derive(Clone, Copy)]
 struct Weather {
     marking: usize,
+    edition1: usize,
+    converting: usize,
     loss: usize,
     doubling: usize,
     delay: usize,
@@ -29,6 +34,8 @@ struct Weather {
 pub fn sequence<E: Stamped>(draws: &mut Draws) -> Answers {
     let weather = Weather {
         marking: 10 + draws.below(50),
+        edition1: *draws.pick(&[0, 30, 60]),
+        converting: *draws.pick(&[0, 10, 30]),
         loss: *draws.pick(&[0, 5, 30]),
         doubling: *draws.pick(&[0, 10, 40]),
         delay: *draws.pick(&[1, 4, 20, 1000]),
@@ -52,10 +59,11 @@ fn run<E: Stamped>(count: usize, steps: usize, weather: &Weather, draws: &mut Dr
 
 #[test]
 fn long_sequences_of_sixteen_desks() {
-    let weather = |loss| Weather { marking: 7, loss, doubling: 5, delay: 30 };
-    let sound = run::<Desk>(16, 4_000, &weather(0), &mut Draws::new(1));
+    let sound = Weather { marking: 7, edition1: 30, converting: 1, loss: 0, doubling: 5, delay: 30 };
+    let lossy = Weather { loss: 1, ..sound };
+    let sound = run::<Desk>(16, 4_000, &sound, &mut Draws::new(1));
     assert!(sound.executed + sound.released > 3_000, "{sound:?}");
-    let lossy = run::<Desk>(16, 4_000, &weather(1), &mut Draws::new(1));
+    let lossy = run::<Desk>(16, 4_000, &lossy, &mut Draws::new(1));
     assert!(lossy.refused[10] > 100, "waiting sets are full at last: {lossy:?}");
 }
 
@@ -71,6 +79,15 @@ pub fn draw_box(draws: &mut Draws) -> MarkBox {
     MarkBox::new(start, end, low, high)
 }
 
+/// Room for every frame, now and then less.
+fn draw_lent(draws: &mut Draws) -> usize {
+    if draws.percent(10) {
+        draws.below(81)
+    } else {
+        LARGEST_FRAME
+    }
+}
+
 impl<E: Stamped> Network<E> {
     /// So many desks with different numbers.
     fn new(count: usize, draws: &mut Draws) -> Network<E> {
@@ -80,6 +97,9 @@ impl<E: Stamped> Network<E> {
     }
 
     fn step(&mut self, weather: &Weather, draws: &mut Draws) {
+        if !self.frames.is_empty() && draws.percent(weather.converting) {
+            return self.convert(weather, draws);
+        }
         if self.on_the_way.is_empty() || draws.percent(weather.marking) {
             return self.mark(weather, draws);
         }
@@ -90,9 +110,8 @@ impl<E: Stamped> Network<E> {
 
     fn mark(&mut self, weather: &Weather, draws: &mut Draws) {
         let maker = draws.below(self.desks.len());
-        let lent = if draws.percent(10) { draws.below(81) } else { 71 };
         let past = names(&self.desks[maker].engine.executed());
-        let (made, frame) = match self.desks[maker].mark(draw_box(draws), lent) {
+        let (made, frame) = match self.desks[maker].mark(draw_box(draws), draw_lent(draws)) {
             Ok(made) => made,
             Err(refusal) => {
                 assert!([Refusal::FieldRange, Refusal::DeskFull, Refusal::OutputShort].contains(&refusal));
@@ -100,7 +119,32 @@ impl<E: Stamped> Network<E> {
             }
         };
         self.pasts.insert(MarkId::new(frame[3], made.number), past);
-        for desk in (0..self.desks.len()).filter(|&desk| desk != maker) {
+        if draws.percent(weather.edition1) {
+            self.frames.push(frame.clone());
+            self.send(edition1(&frame), weather, draws);
+        } else {
+            self.send(frame, weather, draws);
+        }
+    }
+
+    /// A frame of the sequence is converted at a desk of it, and what is made of it is sent. Only 12, 13 and 14 occur.
+    fn convert(&mut self, weather: &Weather, draws: &mut Draws) {
+        let (frame, lent) = (draws.pick(&self.frames).clone(), draw_lent(draws));
+        let at = draws.below(self.desks.len());
+        let desk = &mut self.desks[at];
+        let made = if draws.percent(50) { desk.to2(&frame, lent) } else { to1(&frame, lent) };
+        desk.answers.count_conversion(&made);
+        match made {
+            Ok(made) => self.send(made, weather, draws),
+            Err(refusal) => {
+                assert!([Refusal::NotExecuted, Refusal::OutputShort, Refusal::SameEdition].contains(&refusal));
+            }
+        }
+    }
+
+    /// A frame is on its way to the desks that did not make its mark; some copies are lost, some doubled.
+    fn send(&mut self, frame: Vec<u8>, weather: &Weather, draws: &mut Draws) {
+        for desk in (0..self.desks.len()).filter(|&desk| self.desks[desk].own != frame[3]) {
             for _ in 0..1 + usize::from(draws.percent(weather.doubling)) {
                 if !draws.percent(weather.loss) {
                     self.on_the_way.push((desk, self.frames.len()));
@@ -129,6 +173,10 @@ impl<E: Stamped> Network<E> {
 
     fn compare(&self, draws: &mut Draws) {
         let stamps: BTreeMap<MarkId, Vec<MarkId>> = self.pasts.keys().map(|&id| (id, self.last_of_past(id))).collect();
+        for frame in &self.frames {
+            let fields = reader(frame).expect("a true frame");
+            self.compare_past(fields.id, fields.past, &fields.stamp(), &stamps);
+        }
         for desk in &self.desks {
             desk.compare(draws);
             let executed = desk.engine.executed();
@@ -138,12 +186,21 @@ impl<E: Stamped> Network<E> {
                 let found = desk.model.past(mark.id).expect("it is executed");
                 assert!(found.iter().eq(past), "past of {}", mark.id);
                 assert!(past.is_subset(&names(&executed[..place])), "{} stands before its past", mark.id);
-                assert_eq!(mark.stamp, stamps[&mark.id], "stamp of {}", mark.id);
+                assert_ne!(mark.past, PastCount::Unsaid, "an executed mark has its count");
+                self.compare_past(mark.id, mark.past, &mark.stamp, &stamps);
             }
             for mark in desk.engine.waiting() {
                 assert!(!self.pasts[&mark.id].is_subset(&listed), "{} waits for nothing", mark.id);
-                assert_eq!(mark.stamp, stamps[&mark.id], "stamp of {}", mark.id);
+                self.compare_past(mark.id, mark.past, &mark.stamp, &stamps);
             }
+        }
+    }
+
+    /// Of a mark, in a frame or at a desk: its stamp, and its past count where that is said.
+    fn compare_past(&self, id: MarkId, past: PastCount, stamp: &[MarkId], stamps: &BTreeMap<MarkId, Vec<MarkId>>) {
+        assert_eq!(stamp, stamps[&id], "stamp of {id}");
+        if let PastCount::Said(count) = past {
+            assert_eq!(usize::from(count), self.pasts[&id].len(), "past count of {id}");
         }
     }
 

@@ -1,19 +1,22 @@
 //! An engine and the model, driven together: each answer is compared as it comes.
-use kaungimewe::peers::model::Model;
+use kaungimewe::peers::model::{codec, Model};
 use kaungimewe::peers::{Engine, Stamped};
-use kaungimewe::{MarkBox, Marked, Reception, Refusal};
+use kaungimewe::{MarkBox, Marked, Reception, Refusal, LARGEST_FRAME};
 
 use crate::answers::Answers;
 
 /// What lent bytes hold before a call.
 pub const FILL: u8 = 0x77;
 
+/// Bytes that are lent of: more than any call writes.
+const LENT: usize = 96;
+
 /// A desk of the engine and the model's desk of the same number.
 pub struct Pair<E> {
     pub own: u8,
     pub engine: E,
     pub model: Model,
-    /// What Receive has answered.
+    /// What Receive and the converter have answered.
     pub answers: Answers,
 }
 
@@ -38,7 +41,7 @@ impl<E: Stamped> Pair<E> {
 
     /// Mark into so many lent bytes: the answer and the frame.
     pub fn mark(&mut self, extent: MarkBox, lent: usize) -> Result<(Marked, Vec<u8>), Refusal> {
-        let (mut expected, mut found) = ([FILL; 96], [FILL; 96]);
+        let (mut expected, mut found) = ([FILL; LENT], [FILL; LENT]);
         let answer = self.model.mark(extent, &mut expected[..lent]);
         let made = self.same(answer, |engine| engine.mark(extent, &mut found[..lent]));
         assert_eq!(found, expected);
@@ -47,7 +50,7 @@ impl<E: Stamped> Pair<E> {
 
     /// Mark with a plain box and room: the frame.
     pub fn make(&mut self) -> Vec<u8> {
-        self.mark(MarkBox::new(1_000, 1_500, 100, 400), 71).expect("room for a mark").1
+        self.mark(MarkBox::new(1_000, 1_500, 100, 400), LARGEST_FRAME).expect("room for a mark").1
     }
 
     pub fn receive(&mut self, frame: &[u8]) -> Result<Reception, Refusal> {
@@ -58,6 +61,38 @@ impl<E: Stamped> Pair<E> {
         assert!(known.is_none_or(|k| k == self.engine.snapshot()), "a known mark has changed the desk");
         found
     }
+
+    /// From edition 1 to 2 into so many lent bytes: the frame.
+    pub fn to2(&self, frame: &[u8], lent: usize) -> Result<Vec<u8>, Refusal> {
+        let before = self.engine.snapshot();
+        let (model, engine) = (&self.model, &self.engine);
+        let made = both(lent, |out| model.to2(frame, out), |out| engine.to2(frame, out));
+        assert!(before == self.engine.snapshot(), "a conversion has changed the desk");
+        made
+    }
+}
+
+/// From edition 2 to 1 into so many lent bytes: the frame.
+pub fn to1(frame: &[u8], lent: usize) -> Result<Vec<u8>, Refusal> {
+    both(lent, |out| codec::to1(frame, out), |out| kaungimewe::to1(frame, out))
+}
+
+/// The edition 1 of a frame that is of edition 2.
+pub fn edition1(frame: &[u8]) -> Vec<u8> {
+    to1(frame, LARGEST_FRAME).expect("a frame of edition 2")
+}
+
+/// What the model and the engine write to so many lent bytes, which must be the same: the answer and every byte.
+pub fn both(
+    lent: usize,
+    model: impl FnOnce(&mut [u8]) -> Result<usize, Refusal>,
+    engine: impl FnOnce(&mut [u8]) -> Result<usize, Refusal>,
+) -> Result<Vec<u8>, Refusal> {
+    let (mut expected, mut found) = ([FILL; LENT], [FILL; LENT]);
+    let answer = model(&mut expected[..lent]);
+    assert_eq!(engine(&mut found[..lent]), answer);
+    assert_eq!(found, expected);
+    answer.map(|size| found[..size].to_vec())
 }
 
 /// What Receive answers of a mark that waits, short of so many.

@@ -1,19 +1,27 @@
 //! The examples that the engine's definitions are pinned by beside those of document 01 (causality/specs/Examples.antt).
 use kaungimewe::peers::model::codec;
-use kaungimewe::{Desk, Mark, MarkBox, MarkId, Reception, Refusal};
+use kaungimewe::{Desk, Mark, MarkBox, MarkId, PastCount, Reception, Refusal};
 
 use crate::full::chained;
 use crate::pair::{executed, waiting, Pair};
 
-/// The frame of d.n with this box and these entries.
-pub fn boxed(desk: u8, number: u16, extent: MarkBox, stamp: &[(u8, u16)]) -> Vec<u8> {
+/// The document's box.
+pub const BOX: MarkBox = MarkBox { start: 1_000, end: 1_500, low: 100, high: 400 };
+
+/// The frame of d.n with this box, past count and entries.
+pub fn spelled(desk: u8, number: u16, extent: MarkBox, past: PastCount, stamp: &[(u8, u16)]) -> Vec<u8> {
     let stamp = stamp.iter().map(|&(d, n)| MarkId::new(d, n)).collect();
-    codec::frame_of(&Mark { id: MarkId::new(desk, number), extent, stamp })
+    codec::frame_of(&Mark { id: MarkId::new(desk, number), extent, past, stamp })
 }
 
-/// The frame of d.n with the document's box and these entries.
+/// The frame of d.n with this box and these entries, of edition 1.
+pub fn boxed(desk: u8, number: u16, extent: MarkBox, stamp: &[(u8, u16)]) -> Vec<u8> {
+    spelled(desk, number, extent, PastCount::Unsaid, stamp)
+}
+
+/// The frame of d.n with the document's box and these entries, of edition 1.
 pub fn frame(desk: u8, number: u16, stamp: &[(u8, u16)]) -> Vec<u8> {
-    boxed(desk, number, MarkBox { start: 1_000, end: 1_500, low: 100, high: 400 }, stamp)
+    boxed(desk, number, BOX, stamp)
 }
 
 /// A desk that has executed these frames, one after the other.
@@ -56,5 +64,5 @@ fn refusals_by_stamp_and_name() {
     assert_eq!(four.receive(&frame(3, 1, &[(1, 1), (2, 1)])), Err(Refusal::FalseStamp));
     assert_eq!(two.receive(&frame(1, 2, &[(1, 1)])), waiting(1));
     assert_eq!(two.receive(&frame(1, 2, &[(1, 1)])), Ok(Reception::Known));
-    assert_eq!(two.receive(&frame(1, 2, &[])), Err(Refusal::OtherBytes));
+    assert_eq!(two.receive(&frame(1, 2, &[])), Err(Refusal::OtherFields));
 }

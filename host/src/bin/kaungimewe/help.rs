@@ -23,19 +23,28 @@ what stands behind a #.
   receive D HEX                          known | waiting M | executed K F | refused C
   hand D A.N                             as receive, with the frame that this script's mark A.N wrote;
                                          unmade where there is none
+  hand1 D A.N                            as hand, with the edition 1 of that frame
   relate D A.N B.M                       same | before | after | concurrent | refused 12
   apart D A.N [ROOM]                     apart COUNT A.N ..         | refused C
   first D A.N E                          first N                    | refused C
   frame D A.N [LENT]                     frame SIZE HEX             | refused C
   list D                                 executed A.N ..            by place
   held D                                 waiting A.N ..             by desk, then number
-  read HEX                               fields D N START END LOW HIGH COUNT A.N .. | refused C
+  read HEX                               fields D N START END LOW HIGH COUNT A.N ..             of edition 1
+                                         | fields2 D N START END LOW HIGH PAST COUNT A.N ..     of edition 2
+                                         | refused C
   write D N START END LOW HIGH ENTRIESHEX|- [LENT]
-                                         written SIZE HEX           | refused C
+                                         written SIZE HEX           | refused C     of edition 1
+  write2 D N START END LOW HIGH PAST ENTRIESHEX|- [LENT]
+                                         written SIZE HEX           | refused C     of edition 2
+  to2 D HEX [LENT]                       written SIZE HEX           | refused C     from edition 1 to 2, at desk D
+  to1 HEX [LENT]                         written SIZE HEX           | refused C     from edition 2 to 1
 
 D and E are desks, 1 to 16. A.N is the N-th mark made at desk A. START and END are milliseconds, LOW and HIGH hertz, 32 bits
 each; a click is boxed as one instant, with START and END the same. LENT is how many bytes the call is lent to write to (the
-largest frame, 71, if left out), ROOM how many names (512).
+largest frame, 73, if left out), ROOM how many names (512).
+A frame of edition 2 says PAST, its mark's past count: the number of marks that precede the mark, 0 to 511. `mark` and
+`frame` write edition 2; `receive` takes both.
 M counts the marks that a waiting one is short of: entries of its stamp that are not executed there, and its desk's previous
 mark where that is neither executed nor an entry. K counts the marks executed by the call, F those dropped for a false stamp.
 Words are separated by spaces, numbers are decimal, bytes are hex (- for no bytes). `new D` of a desk that is there gives an
@@ -57,7 +66,7 @@ Draws the script that `run` answers as an SVG picture: a line for each desk, the
 right in their order, the waiting ones hollow behind them. A bold box is a mark where it was made; an arrow runs to it from
 each entry of its stamp. With --apart, mark A.N is framed, and the marks concurrent with it are hatched and joined to it by
 broken lines. A click, which has no width, has a narrow box, as wide as its name. Point at a box for its times, or a click's
-instant, its frequencies and its stamp.
+instant, its frequencies, its stamp and its past count, which is not said of a waiting mark that came in edition 1.
 ";
 
 pub const BENCH: &str = "\
@@ -65,7 +74,8 @@ pub const BENCH: &str = "\
 
 Makes one history (500 marks, 16 desks) by a seeded generator, and takes every call through it with the proved engine and
 with two others in the same run:
-  (a) the same plan in plain Rust, by reference, with full counts kept per mark and, for Relate, an index of names;
+  (a) the same plan in plain Rust, by reference, with full counts and past count kept per mark and, for Relate, an index
+      of names;
   (b) a BTreeMap vector clock for each mark, looked up by name and compared by partial_cmp.
 A junk frame is one that Receive refuses with 2 to 6. It and Frame again are left out for (b), whose frames are others.
 Prints medians of N rounds (5 if left out) as times a call and as ratios, their growth from 125 to 250 to 500 marks, the

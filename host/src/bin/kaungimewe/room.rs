@@ -2,7 +2,8 @@
 use std::collections::BTreeMap;
 use std::fmt::Write;
 
-use kaungimewe::{reader, writer, Desk, Fields, Mark, MarkBox, MarkId, Reception, Refusal, Relation};
+use kaungimewe::{reader, to1, writer, LARGEST_FRAME};
+use kaungimewe::{Desk, Fields, Mark, MarkBox, MarkId, PastCount, Reception, Refusal, Relation};
 
 use crate::script::Call;
 use crate::words::hex;
@@ -39,15 +40,27 @@ impl Room {
             Call::New { desk } => self.new_desk(*desk),
             Call::Mark { desk, extent, lent } => self.mark(*desk, *extent, *lent)?,
             Call::Receive { desk, frame } => received(self.desk_mut(*desk)?, frame),
-            Call::Hand { desk, mark } => self.hand(*desk, *mark)?,
+            Call::Hand { desk, mark } => self.hand(*desk, *mark, <[u8]>::to_vec)?,
+            Call::Hand1 { desk, mark } => self.hand(*desk, *mark, edition1)?,
             Call::Relate { desk, a, b } => self.desk(*desk)?.relate(*a, *b).map(relation),
             Call::Apart { desk, mark, room } => apart(self.desk(*desk)?, *mark, *room),
             Call::First { desk, mark, of } => self.desk(*desk)?.first_apart(*mark, *of).map(|n| format!("first {n}")),
-            Call::Frame { desk, mark, lent } => frame_again(self.desk(*desk)?, *mark, *lent),
+            Call::Frame { desk, mark, lent } => {
+                let desk = self.desk(*desk)?;
+                lend("frame", *lent, |out| desk.frame_again(*mark, out))
+            }
             Call::List { desk } => Ok(names("executed", ids(self.desk(*desk)?.executed()))),
             Call::Held { desk } => Ok(held(self.desk(*desk)?)),
             Call::Read { frame } => read(frame),
-            Call::Write { mark, extent, entries, lent } => write(Fields { id: *mark, extent: *extent, entries }, *lent),
+            Call::Write { mark, extent, past, entries, lent } => {
+                let fields = Fields { id: *mark, extent: *extent, past: *past, entries };
+                lend("written", *lent, |out| writer(fields, out))
+            }
+            Call::To2 { desk, frame, lent } => {
+                let desk = self.desk(*desk)?;
+                lend("written", *lent, |out| desk.to2(frame, out))
+            }
+            Call::To1 { frame, lent } => lend("written", *lent, |out| to1(frame, out)),
         })
     }
 
@@ -69,13 +82,13 @@ impl Room {
         Ok(Ok(answer))
     }
 
-    fn hand(&mut self, desk: u8, mark: MarkId) -> Result<Answer, String> {
+    /// Receive of what is made of the frame that Mark wrote.
+    fn hand(&mut self, desk: u8, mark: MarkId, made: fn(&[u8]) -> Vec<u8>) -> Result<Answer, String> {
         self.desk(desk)?;
-        let Some(frame) = self.frames.get(&mark) else {
+        let Some(frame) = self.frames.get(&mark).map(|frame| made(frame)) else {
             return Ok(Ok("unmade".to_string()));
         };
-        let desk = self.desks.get_mut(&desk).expect("it is there");
-        Ok(received(desk, frame))
+        Ok(received(self.desk_mut(desk)?, &frame))
     }
 }
 
@@ -104,10 +117,19 @@ fn apart(desk: &Desk, mark: MarkId, room: usize) -> Answer {
     Ok(names(&format!("apart {count}"), out))
 }
 
-fn frame_again(desk: &Desk, mark: MarkId, lent: usize) -> Answer {
+/// A call that writes to so many lent bytes: its word, the size, and what it wrote.
+fn lend(word: &str, lent: usize, call: impl FnOnce(&mut [u8]) -> Result<usize, Refusal>) -> Answer {
     let mut out = vec![0; lent];
-    let size = desk.frame_again(mark, &mut out)?;
-    Ok(format!("frame {size} {}", hex(&out[..size])))
+    let size = call(&mut out)?;
+    Ok(format!("{word} {size} {}", hex(&out[..size])))
+}
+
+/// The edition 1 of a frame that Mark wrote.
+fn edition1(frame: &[u8]) -> Vec<u8> {
+    let mut out = vec![0; LARGEST_FRAME];
+    let size = to1(frame, &mut out).expect("Mark writes edition 2");
+    out.truncate(size);
+    out
 }
 
 fn held(desk: &Desk) -> String {
@@ -120,14 +142,12 @@ fn read(frame: &[u8]) -> Answer {
     let fields = reader(frame)?;
     let MarkBox { start, end, low, high } = fields.extent;
     let (id, stamp) = (fields.id, fields.stamp());
-    let head = format!("fields {} {} {start} {end} {low} {high} {}", id.desk, id.number, stamp.len());
+    let (word, past) = match fields.past {
+        PastCount::Unsaid => ("fields", String::new()),
+        PastCount::Said(count) => ("fields2", format!("{count} ")),
+    };
+    let head = format!("{word} {} {} {start} {end} {low} {high} {past}{}", id.desk, id.number, stamp.len());
     Ok(names(&head, stamp))
-}
-
-fn write(fields: Fields<'_>, lent: usize) -> Answer {
-    let mut out = vec![0; lent];
-    let size = writer(fields, &mut out)?;
-    Ok(format!("written {size} {}", hex(&out[..size])))
 }
 
 fn ids(marks: Vec<Mark>) -> Vec<MarkId> {

@@ -1,7 +1,7 @@
 //! A script: one call a line.
 use std::io::BufRead;
 
-use kaungimewe::{MarkBox, MarkId, LARGEST_FRAME, PLACES};
+use kaungimewe::{MarkBox, MarkId, PastCount, LARGEST_FRAME, PLACES};
 
 use crate::words::Words;
 
@@ -12,6 +12,7 @@ pub enum Call {
     Mark { desk: u8, extent: MarkBox, lent: usize },
     Receive { desk: u8, frame: Vec<u8> },
     Hand { desk: u8, mark: MarkId },
+    Hand1 { desk: u8, mark: MarkId },
     Relate { desk: u8, a: MarkId, b: MarkId },
     Apart { desk: u8, mark: MarkId, room: usize },
     First { desk: u8, mark: MarkId, of: u8 },
@@ -19,7 +20,9 @@ pub enum Call {
     List { desk: u8 },
     Held { desk: u8 },
     Read { frame: Vec<u8> },
-    Write { mark: MarkId, extent: MarkBox, entries: Vec<u8>, lent: usize },
+    Write { mark: MarkId, extent: MarkBox, past: PastCount, entries: Vec<u8>, lent: usize },
+    To2 { desk: u8, frame: Vec<u8>, lent: usize },
+    To1 { frame: Vec<u8>, lent: usize },
 }
 
 /// The call of a line; none if the line is blank or a comment.
@@ -40,6 +43,7 @@ fn call_of(w: &mut Words<'_>) -> Result<Call, String> {
         "mark" => Call::Mark { desk: w.desk("D")?, extent: w.extent()?, lent: w.count_or_most(LARGEST_FRAME)? },
         "receive" => Call::Receive { desk: w.desk("D")?, frame: w.bytes("HEX")? },
         "hand" => Call::Hand { desk: w.desk("D")?, mark: w.mark("A.N")? },
+        "hand1" => Call::Hand1 { desk: w.desk("D")?, mark: w.mark("A.N")? },
         "relate" => Call::Relate { desk: w.desk("D")?, a: w.mark("A.N")?, b: w.mark("B.M")? },
         "apart" => Call::Apart { desk: w.desk("D")?, mark: w.mark("A.N")?, room: w.count_or_most(PLACES)? },
         "first" => Call::First { desk: w.desk("D")?, mark: w.mark("A.N")?, of: w.desk("E")? },
@@ -47,13 +51,25 @@ fn call_of(w: &mut Words<'_>) -> Result<Call, String> {
         "list" => Call::List { desk: w.desk("D")? },
         "held" => Call::Held { desk: w.desk("D")? },
         "read" => Call::Read { frame: w.bytes("HEX")? },
-        "write" => Call::Write {
-            mark: MarkId::new(w.desk("D")?, w.number("N")?),
-            extent: w.extent()?,
-            entries: w.bytes("ENTRIESHEX")?,
-            lent: w.count_or_most(LARGEST_FRAME)?,
-        },
+        "write" => write_of(w, |_| Ok(PastCount::Unsaid))?,
+        "write2" => write_of(w, |w| w.number("PAST").map(PastCount::Said))?,
+        "to2" => Call::To2 { desk: w.desk("D")?, frame: w.bytes("HEX")?, lent: w.count_or_most(LARGEST_FRAME)? },
+        "to1" => Call::To1 { frame: w.bytes("HEX")?, lent: w.count_or_most(LARGEST_FRAME)? },
         word => return Err(format!("`{word}` is not a call")),
+    })
+}
+
+/// The writer's call, with what stands of the past count between box and entries.
+fn write_of<'a>(
+    w: &mut Words<'a>,
+    past: impl FnOnce(&mut Words<'a>) -> Result<PastCount, String>,
+) -> Result<Call, String> {
+    Ok(Call::Write {
+        mark: MarkId::new(w.desk("D")?, w.number("N")?),
+        extent: w.extent()?,
+        past: past(w)?,
+        entries: w.bytes("ENTRIESHEX")?,
+        lent: w.count_or_most(LARGEST_FRAME)?,
     })
 }
 
@@ -98,6 +114,12 @@ mod tests {
             ("receive 1 001", "HEX `001` is not whole bytes in hex, nor `-`"),
             ("relate 1 1.1", "B.M is missing"),
             ("hand 1 11", "`11` is not a mark's name like 1.2"),
+            ("hand1 1", "A.N is missing"),
+            ("write2 1 1 0 1 2 3", "PAST is missing"),
+            ("write2 1 1 0 1 2 3 -", "`-` is not a decimal number"),
+            ("write 1 1 0 1 2 3 0 -", "ENTRIESHEX `0` is not whole bytes in hex, nor `-`"),
+            ("to2 -", "`-` is not a decimal number"),
+            ("to1 - 1 2", "`2` is one word too many"),
         ] {
             assert_eq!(parse(line), Err(wrong.to_string()), "{line}");
         }

@@ -1,7 +1,7 @@
 //! The calls of the engine by reference.
-use super::{false_stamp, frame, missing, ByReference, Held, Row};
+use super::{agree, false_stamp, frame, missing, ByReference, Held, Row};
 use crate::peers::{Engine, Stamped};
-use crate::{Mark, MarkBox, MarkId, Marked, Reception, Refusal, Relation, DESKS, PLACES, WAITING};
+use crate::{Mark, MarkBox, MarkId, Marked, PastCount, Reception, Refusal, Relation, DESKS, PLACES, WAITING};
 
 impl ByReference {
     fn full(&self) -> bool {
@@ -14,13 +14,19 @@ impl ByReference {
         (mark.desk == self.own && tally[own] < mark.number) || tally[own] < mark.row[own]
     }
 
-    /// Whether a mark of this name that is here is the very mark; none if there is none.
+    /// Has the mark at a place the same fields, the past count where the other has one?
+    fn same_at(&self, p: usize, mark: &Held) -> bool {
+        let past = PastCount::Said(self.pasts[p]);
+        self.boxes[p] == mark.extent && self.stamps[p] == mark.row && agree(past, mark.past)
+    }
+
+    /// Whether a mark of this name that is here has the same fields; none if there is none.
     fn known(&self, mark: &Held) -> Option<bool> {
         if let Some(p) = self.find(mark.desk, mark.number) {
-            return Some(self.boxes[p] == mark.extent && self.stamps[p] == mark.row);
+            return Some(self.same_at(p, mark));
         }
         let waiting = self.waiting.iter().find(|w| w.desk == mark.desk && w.number == mark.number);
-        waiting.map(|w| w == mark)
+        waiting.map(|w| w.extent == mark.extent && w.row == mark.row && agree(w.past, mark.past))
     }
 
     fn place(&self, id: MarkId) -> Result<usize, Refusal> {
@@ -32,7 +38,12 @@ impl ByReference {
     }
 
     fn held_at(&self, p: usize) -> Held {
-        Held { desk: self.desks[p], number: self.numbers[p], extent: self.boxes[p], row: self.stamps[p] }
+        let past = PastCount::Said(self.pasts[p]);
+        Held { desk: self.desks[p], number: self.numbers[p], extent: self.boxes[p], past, row: self.stamps[p] }
+    }
+
+    fn write_again(&self, p: usize, out: &mut [u8]) -> Result<usize, Refusal> {
+        frame::write(&self.held_at(p), self.pasts[p], out)
     }
 }
 
@@ -40,7 +51,7 @@ impl ByReference {
 fn mark_of(held: &Held) -> Mark {
     let named = (1..).zip(&held.row).filter(|(_, &n)| n > 0);
     let stamp = named.map(|(desk, &number)| MarkId::new(desk, number)).collect();
-    Mark { id: MarkId::new(held.desk, held.number), extent: held.extent, stamp }
+    Mark { id: MarkId::new(held.desk, held.number), extent: held.extent, past: held.past, stamp }
 }
 
 impl Engine for ByReference {
@@ -60,8 +71,9 @@ impl Engine for ByReference {
         }
         let tally = self.tally();
         let number = tally[usize::from(self.own) - 1] + 1;
-        let mark = Held { desk: self.own, number, extent, row: self.heads(&tally) };
-        let size = frame::write(&mark, out)?;
+        let past = self.desks.len() as u16;
+        let mark = Held { desk: self.own, number, extent, past: PastCount::Said(past), row: self.heads(&tally) };
+        let size = frame::write(&mark, past, out)?;
         self.execute(&mark, tally);
         Ok(Marked { number, size })
     }
@@ -74,7 +86,7 @@ impl Engine for ByReference {
         }
         match self.known(&mark) {
             Some(true) => return Ok(Reception::Known),
-            Some(false) => return Err(Refusal::OtherBytes),
+            Some(false) => return Err(Refusal::OtherFields),
             None => {}
         }
         if self.full() {
@@ -136,7 +148,19 @@ impl Stamped for ByReference {
     type Snapshot = ByReference;
 
     fn frame_again(&self, a: MarkId, out: &mut [u8]) -> Result<usize, Refusal> {
-        frame::write(&self.held_at(self.place(a)?), out)
+        self.write_again(self.place(a)?, out)
+    }
+
+    fn to2(&self, frame: &[u8], out: &mut [u8]) -> Result<usize, Refusal> {
+        let mark = frame::read(frame)?;
+        if mark.past != PastCount::Unsaid {
+            return Err(Refusal::SameEdition);
+        }
+        let p = self.find(mark.desk, mark.number).ok_or(Refusal::NotExecuted)?;
+        if !self.same_at(p, &mark) {
+            return Err(Refusal::OtherFields);
+        }
+        self.write_again(p, out)
     }
 
     fn executed(&self) -> Vec<Mark> {

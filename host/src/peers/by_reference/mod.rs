@@ -1,12 +1,12 @@
 //! The proved engine's plan in plain Rust: flat arrays by place, lent and never copied, with full counts kept per mark.
 //!
 //! What the proved engine finds by following stamp entries, its trace, stands here ready in the full counts: at index
-//! d − 1 how many marks of desk d precede the mark. Relate finds both marks by an index; the other calls look for a mark
-//! at all places.
+//! d − 1 how many marks of desk d precede the mark. Their sum, the past count, is kept as well. Relate finds both marks by
+//! an index; the other calls look for a mark at all places.
 mod calls;
 mod frame;
 
-use crate::{MarkBox, DESKS, PLACES};
+use crate::{MarkBox, PastCount, DESKS, PLACES};
 
 const WIDTH: usize = DESKS as usize;
 
@@ -19,6 +19,7 @@ struct Held {
     desk: u8,
     number: u16,
     extent: MarkBox,
+    past: PastCount,
     row: Row,
 }
 
@@ -29,6 +30,7 @@ pub struct ByReference {
     desks: Vec<u8>,
     numbers: Vec<u16>,
     boxes: Vec<MarkBox>,
+    pasts: Vec<u16>,
     stamps: Vec<Row>,
     counts: Vec<Row>,
     /// The place + 1 of each executed mark at the index of its name, 0 where there is none.
@@ -56,11 +58,22 @@ fn missing(tally: &Row, mark: &Held) -> u16 {
     entries + u16::from(previous)
 }
 
+/// How many marks precede a mark with this stamp; `below` is what precedes an entry of it.
+fn reckoning(row: &Row, below: &Row) -> u16 {
+    row.iter().zip(below).map(|(named, under)| named.max(under)).sum()
+}
+
+/// Past counts agree unless both are said and differ.
+fn agree(said: PastCount, count: PastCount) -> bool {
+    said == count || said == PastCount::Unsaid || count == PastCount::Unsaid
+}
+
 /// The false-stamp test of a ready mark; `below` is what precedes an entry of its stamp.
 fn false_stamp(mark: &Held, below: &Row) -> bool {
     let own = usize::from(mark.desk) - 1;
     mark.row.iter().zip(below).any(|(&named, &under)| named > 0 && named <= under)
         || (mark.number > 1 && mark.row[own].max(below[own]) < mark.number - 1)
+        || !agree(mark.past, PastCount::Said(reckoning(&mark.row, below)))
 }
 
 impl ByReference {
@@ -70,6 +83,7 @@ impl ByReference {
             desks: Vec::with_capacity(PLACES),
             numbers: Vec::with_capacity(PLACES),
             boxes: Vec::with_capacity(PLACES),
+            pasts: Vec::with_capacity(PLACES),
             stamps: Vec::with_capacity(PLACES),
             counts: Vec::with_capacity(PLACES),
             places: vec![0; WIDTH * PLACES],
@@ -120,10 +134,11 @@ impl ByReference {
 
     /// A mark takes the next place; `below` is what precedes an entry of its stamp.
     fn execute(&mut self, mark: &Held, mut below: Row) {
-        join(&mut below, &mark.row);
         self.desks.push(mark.desk);
         self.numbers.push(mark.number);
         self.boxes.push(mark.extent);
+        self.pasts.push(reckoning(&mark.row, &below));
+        join(&mut below, &mark.row);
         self.stamps.push(mark.row);
         self.counts.push(below);
         let slot = slot(mark.desk, mark.number).expect("its name is in range");

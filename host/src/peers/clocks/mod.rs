@@ -72,7 +72,7 @@ impl Engine for ClockDesk {
     fn receive(&mut self, frame: &[u8]) -> Result<Reception, Refusal> {
         let (id, mark) = frame::read(frame)?;
         if let Some(known) = self.marks.get(&id).or_else(|| self.waiting.get(&id)) {
-            return if *known == mark { Ok(Reception::Known) } else { Err(Refusal::OtherBytes) };
+            return if *known == mark { Ok(Reception::Known) } else { Err(Refusal::OtherFields) };
         }
         if !mark.clock.is_next(id.desk, &self.now) {
             self.waiting.insert(id, mark);

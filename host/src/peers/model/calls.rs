@@ -1,9 +1,9 @@
-//! The model's calls: conditions by rising number, as document 01's table has them.
+//! The model's calls: conditions in the order that documents 01 and 02 give them.
 use std::collections::BTreeMap;
 
-use super::{codec, Model};
+use super::{codec, same, Model};
 use crate::peers::{Engine, Stamped};
-use crate::{Mark, MarkBox, MarkId, Marked, Reception, Refusal, Relation};
+use crate::{Mark, MarkBox, MarkId, Marked, PastCount, Reception, Refusal, Relation};
 
 impl Model {
     /// 7: of this desk and not yet made.
@@ -14,6 +14,15 @@ impl Model {
     fn known(&self, id: MarkId) -> Option<&Mark> {
         let executed = self.find(id).ok().map(|e| &e.mark);
         executed.or_else(|| self.waiting.iter().find(|w| w.id == id))
+    }
+
+    /// What Mark makes of a box: this desk's next number, stamped with the heads, which give it its past.
+    fn new_mark(&self, extent: MarkBox) -> Mark {
+        let id = MarkId::new(self.own, self.tally(self.own) as u16 + 1);
+        let mark = Mark { id, extent, past: PastCount::Unsaid, stamp: self.heads() };
+        let past = self.past_by(&mark).size();
+        assert_eq!(usize::from(past), self.executed.len(), "all executed marks precede {id}");
+        Mark { past: PastCount::Said(past), ..mark }
     }
 }
 
@@ -32,9 +41,9 @@ impl Engine for Model {
         if self.held() == 512 {
             return Err(Refusal::DeskFull);
         }
-        let number = self.tally(self.own) as u16 + 1;
-        let mark = Mark { id: MarkId::new(self.own, number), extent, stamp: self.heads() };
+        let mark = self.new_mark(extent);
         let size = codec::put(&codec::frame_of(&mark), out)?;
+        let number = mark.id.number;
         self.execute(mark);
         Ok(Marked { number, size })
     }
@@ -45,7 +54,7 @@ impl Engine for Model {
             return Err(Refusal::NotYetMade);
         }
         if let Some(known) = self.known(mark.id) {
-            return if codec::frame_of(known) == frame { Ok(Reception::Known) } else { Err(Refusal::OtherBytes) };
+            return if same(known, &mark) { Ok(Reception::Known) } else { Err(Refusal::OtherFields) };
         }
         if self.held() == 512 {
             return Err(Refusal::DeskFull);
@@ -104,6 +113,18 @@ impl Stamped for Model {
 
     fn frame_again(&self, a: MarkId, out: &mut [u8]) -> Result<usize, Refusal> {
         codec::put(&codec::frame_of(&self.find(a)?.mark), out)
+    }
+
+    fn to2(&self, frame: &[u8], out: &mut [u8]) -> Result<usize, Refusal> {
+        let mark = codec::read(frame)?;
+        if mark.past != PastCount::Unsaid {
+            return Err(Refusal::SameEdition);
+        }
+        let held = &self.find(mark.id)?.mark;
+        if !same(held, &mark) {
+            return Err(Refusal::OtherFields);
+        }
+        codec::put(&codec::frame_of(held), out)
     }
 
     fn executed(&self) -> Vec<Mark> {

@@ -1,18 +1,18 @@
 //! The model: what every call answers, written from the customer's documents alone, with sets and full counts.
 //!
 //! Each executed mark keeps its whole past as a set of marks and as full counts (a vector clock). Precedence is decided
-//! by the counts, and held against the set each time. The model shares with the engine the names of things and no
-//! code; it is written to be read and not to be fast.
+//! by the counts, and held against the set each time; the past count is the size of the set. The model shares with the
+//! engine the names of things and no code; it is written to be read and not to be fast.
 mod calls;
 pub mod codec;
 mod past;
 
 use std::collections::{BTreeMap, BTreeSet};
 
-use crate::{Mark, MarkId, Refusal};
+use crate::{Mark, MarkId, PastCount, Refusal};
 use past::Past;
 
-/// A desk as document 01 describes it.
+/// A desk as documents 01 and 02 describe it.
 #[derive(Clone)]
 pub struct Model {
     own: u8,
@@ -30,6 +30,19 @@ struct Executed {
 /// The previous mark of the same desk, if the mark is not its first.
 fn previous(id: MarkId) -> Option<MarkId> {
     (id.number > 1).then(|| MarkId::new(id.desk, id.number - 1))
+}
+
+/// Past counts agree unless both are said and differ.
+fn agree(a: PastCount, b: PastCount) -> bool {
+    match (a, b) {
+        (PastCount::Said(a), PastCount::Said(b)) => a == b,
+        _ => true,
+    }
+}
+
+/// Marks of one name are the same if their fields agree, the past counts where both have one.
+fn same(held: &Mark, other: &Mark) -> bool {
+    held.extent == other.extent && held.stamp == other.stamp && agree(held.past, other.past)
 }
 
 impl Model {
@@ -95,20 +108,29 @@ impl Model {
         below
     }
 
-    /// Of a ready mark.
-    fn false_stamp(&self, mark: &Mark) -> bool {
-        let below = self.below_entries(mark);
-        let previous_missing = |id: MarkId| !mark.stamp.contains(&id) && !below.has(id);
-        mark.stamp.iter().any(|e| below.has(*e)) || previous(mark.id).is_some_and(previous_missing)
-    }
-
-    /// A ready mark takes the next place.
-    fn execute(&mut self, mark: Mark) {
-        let mut past = self.below_entries(&mark);
+    /// The past that a ready mark's stamp gives it: the entries and all that precede one.
+    fn past_by(&self, mark: &Mark) -> Past {
+        let mut past = self.below_entries(mark);
         for entry in &mark.stamp {
             past.add(*entry);
         }
+        past
+    }
+
+    /// Of a ready mark: by its entries, or by a past count that is not the number of marks in its past.
+    fn false_stamp(&self, mark: &Mark) -> bool {
+        let below = self.below_entries(mark);
+        let previous_missing = |id: MarkId| !mark.stamp.contains(&id) && !below.has(id);
+        mark.stamp.iter().any(|e| below.has(*e))
+            || previous(mark.id).is_some_and(previous_missing)
+            || !agree(mark.past, PastCount::Said(self.past_by(mark).size()))
+    }
+
+    /// A ready mark takes the next place, with the number of marks in its past as its count.
+    fn execute(&mut self, mark: Mark) {
+        let past = self.past_by(&mark);
         self.places.insert(mark.id, self.executed.len());
+        let mark = Mark { past: PastCount::Said(past.size()), ..mark };
         self.executed.push(Executed { mark, past });
     }
 

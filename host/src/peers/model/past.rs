@@ -34,6 +34,13 @@ impl Past {
         }
     }
 
+    /// How many marks are in the set, which its full counts must add up to.
+    pub fn size(&self) -> u16 {
+        let size = self.words.iter().map(|w| w.count_ones() as u16).sum();
+        assert_eq!(size, self.counts.iter().sum(), "set and counts disagree");
+        size
+    }
+
     pub fn add_all(&mut self, other: &Past) {
         for (mine, theirs) in self.words.iter_mut().zip(other.words.iter()) {
             *mine |= theirs;

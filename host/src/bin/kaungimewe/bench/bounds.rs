@@ -25,8 +25,8 @@ pub struct Bound {
 
 /// Every bound.
 pub const BOUNDS: [Bound; 7] = [
-    Bound { call: Call::Receive, most: 0.7, beside: Beside::ByReference },
-    Bound { call: Call::Mark, most: 0.2, beside: Beside::ByReference },
+    Bound { call: Call::Receive, most: 0.8, beside: Beside::ByReference },
+    Bound { call: Call::Mark, most: 0.3, beside: Beside::ByReference },
     Bound { call: Call::Relate, most: 0.6, beside: Beside::Clocks },
     Bound { call: Call::Apart, most: 1.5, beside: Beside::ByReference },
     Bound { call: Call::FirstApart, most: 1.5, beside: Beside::ByReference },

@@ -9,7 +9,7 @@ use kaungimewe::{MarkId, DESKS, LARGEST_FRAME, PLACES};
 use super::junk::junk;
 use super::load::{Load, Step};
 
-/// The calls that are timed. The last two are of document 01's frames, and only engines that have these are asked.
+/// The calls that are timed. The last two are of the documents' frames, and only engines that have these are asked.
 #[derive(Clone, Copy)]
 pub enum Call {
     Receive,
@@ -39,7 +39,7 @@ pub struct Samples {
 }
 
 /// What an engine did: its times in the order of `CALLS`, the bytes of its frames, and the sums of what all engines are
-/// asked and of what only those with document 01's frames are.
+/// asked and of what only those with the documents' frames are.
 #[derive(Default)]
 pub struct Measured {
     pub samples: Vec<Samples>,
@@ -76,7 +76,7 @@ pub fn measure<E: Engine>(load: &Load) -> Measured {
     measured
 }
 
-/// The same, and then the calls of document 01's frames.
+/// The same, and then the calls of the documents' frames.
 pub fn measure_stamped<E: Stamped>(load: &Load) -> Measured {
     let mut measured = Measured::default();
     let mut replayed = replay::<E>(load, &mut measured);

@@ -2,7 +2,7 @@
 use std::fmt::Write;
 
 use kaungimewe::peers::clocks::FRAME;
-use kaungimewe::HEAD;
+use kaungimewe::HEAD2;
 
 use super::bounds::BOUNDS;
 use super::load::{Load, LAG, SWAPPED};
@@ -29,7 +29,7 @@ fn write_report(text: &mut String, load: &Load, rounds: usize, medians: &Medians
 
 fn history(text: &mut String, load: &Load, frame: f64) -> std::fmt::Result {
     let (desks, marks, hand_overs, seed) = (load.desks, load.marks, load.hand_overs(), load.seed);
-    let entries = (frame - HEAD as f64) / 3.0;
+    let entries = (frame - HEAD2 as f64) / 3.0;
     writeln!(text, "History: {desks} desks, {marks} marks, {hand_overs} hand-overs, {entries:.2} entries a stamp")?;
     writeln!(
         text,
@@ -49,8 +49,9 @@ fn times(text: &mut String, medians: &Medians) -> std::fmt::Result {
     }
     writeln!(
         text,
-        "  (a) the same plan in plain Rust, by reference, with full counts kept per mark and, for Relate, an index"
+        "  (a) the same plan in plain Rust, by reference, with full counts and past count kept per mark and, for Relate,"
     )?;
+    writeln!(text, "      an index of names")?;
     writeln!(text, "  (b) a BTreeMap vector clock for each mark, looked up by name, compared by partial_cmp\n")
 }
 

@@ -2,7 +2,7 @@
 use std::collections::BTreeSet;
 use std::fmt::Write;
 
-use kaungimewe::MarkId;
+use kaungimewe::{MarkId, PastCount};
 
 use super::layout::{Arrow, Kind, Layout, Shown};
 
@@ -149,17 +149,26 @@ fn pair_paths(layout: &Layout, pairs: &Pairs) -> String {
 
 fn mark_box(x: i64, y: i64, shown: &Shown, pairs: &Pairs) -> String {
     let mark = &shown.mark;
-    let b = mark.extent;
-    let stamp: String = mark.stamp.iter().map(|e| format!(" {e}")).collect();
-    let stamp = if stamp.is_empty() { " none".to_string() } else { stamp };
     let (chosen, apart) = match pairs {
         None => (false, false),
         Some((name, others)) => (mark.id == *name, others.contains(&mark.id)),
     };
     let class = class_of(shown.kind, apart);
+    labelled_box(x, y, half(shown), &class, &mark.id.to_string(), &title(shown), chosen)
+}
+
+/// What a box tells where it is pointed at.
+fn title(shown: &Shown) -> String {
+    let mark = &shown.mark;
+    let b = mark.extent;
     let times = if is_click(shown) { format!("at {}", b.start) } else { format!("{} to {}", b.start, b.end) };
-    let title = format!("{}: {times} ms, {} to {} Hz; entries:{stamp}", mark.id, b.low, b.high);
-    labelled_box(x, y, half(shown), &class, &mark.id.to_string(), &title, chosen)
+    let stamp: String = mark.stamp.iter().map(|e| format!(" {e}")).collect();
+    let stamp = if stamp.is_empty() { " none".to_string() } else { stamp };
+    let past = match mark.past {
+        PastCount::Unsaid => "not said".to_string(),
+        PastCount::Said(count) => count.to_string(),
+    };
+    format!("{}: {times} ms, {} to {} Hz; entries:{stamp}; past count: {past}", mark.id, b.low, b.high)
 }
 
 fn class_of(kind: Kind, apart: bool) -> String {
