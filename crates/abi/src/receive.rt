@@ -30,7 +30,8 @@ pub extern "C" fn kaungimewe_receive_lent(
     wstamps: &mut [u16; WAITING * WIDTH],
     frame: &[u8],
 ) -> ReceiveAnswer
-    requires { ⌜ KeptIn own (here count desks numbers boxes pasts stamps tally heads last before) (heldHere waiting wdesks wnumbers wboxes wpasts wstamps) ⌝ }
+    requires { ⌜ KeptIn own
+        (here count desks numbers boxes pasts stamps tally heads last before) (heldHere waiting wdesks wnumbers wboxes wpasts wstamps) ⌝ }
     ensures { λ r. ⌜ ReceiveExport own
         (found count desks numbers boxes pasts stamps tally heads last before) (heldFound waiting wdesks wnumbers wboxes wpasts wstamps)
         (left count desks numbers boxes pasts stamps tally heads last before) (heldLeft waiting wdesks wnumbers wboxes wpasts wstamps)

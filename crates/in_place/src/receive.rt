@@ -57,7 +57,8 @@ pub fn receiving(
     wstamps: &mut [u16; WAITING * WIDTH],
     frame: &[u8],
 ) -> Received
-    requires { ⌜ KeptIn own (here count desks numbers boxes pasts stamps tally heads last before) (heldHere waiting wdesks wnumbers wboxes wpasts wstamps) ⌝ }
+    requires { ⌜ KeptIn own
+        (here count desks numbers boxes pasts stamps tally heads last before) (heldHere waiting wdesks wnumbers wboxes wpasts wstamps) ⌝ }
     ensures { λ r. ⌜ ReceivedIn own
         (found count desks numbers boxes pasts stamps tally heads last before) (heldFound waiting wdesks wnumbers wboxes wpasts wstamps)
         (left count desks numbers boxes pasts stamps tally heads last before) (heldLeft waiting wdesks wnumbers wboxes wpasts wstamps)
