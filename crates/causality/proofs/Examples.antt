@@ -13,7 +13,7 @@ use Rattle.frame.specs.Frame.{at2, at4, bytes2, bytes4, countBad, entriesBad, e
 use Rattle.frame.specs.Mark.{MarkId, boxRule, desks, isDesk, isNumber}
 use Rattle.causality.specs.Answers.{After, Before, Concurrent, Executed, Known, Numbered, Relation, Reply, Same, Waiting}
 use Rattle.causality.specs.Calls.{apartOf, arrive, executing, fieldsOfMark, firstApart, frameAgainBytes, frameAgainSize, frameOfMark, full, mark, markAnswer, markIn, new, newMark, receive, receiveMark, refuse, relate, sameFields, sizeOfMark, toFirstBytes, toFirstMark, toFirstSize, toSecondBytes, toSecondMark, toSecondSize, unmade}
-use Rattle.causality.specs.Examples.{clicks, counted, pinned, short, starred}
+use Rattle.causality.specs.Examples.{clicks, counted, pinned, short, starred, tails}
 use Rattle.causality.specs.Marks.{same}
 use Rattle.causality.specs.State.{Mark, State, concurrent, falseEntries, falseStamp, heads, ids, isHead, lacksPrevious, missing, missingEntries, previous, ready, reckoning}
 
@@ -225,6 +225,22 @@ foundConverted = toSecondBytes desks desk1 (whole Unsaid) (replicate 40 7) ∷ t
 abbrev converted : List (List ℕ)
 converted = (whole (Said 3) ++ replicate 6 7) ∷ (whole Unsaid ++ replicate 8 7) ∷ []
 
+-- First apart of 2.1 at desk 1, at desk 3 with so many marks of desk 1 and then 2.1 with these entries.
+abbrev chain : ℕ → List (List ℕ)
+chain n = take n (f11 ∷ f1 2 ∷ f1 3 ∷ f1 4 ∷ f1 5 ∷ [])
+
+abbrev tail : ℕ → List MarkId → ℕ
+tail n es = value (firstApart desks (receives (fresh 3) (chain n ++ (frame 2 1 es ∷ []))) (id 2 1) 1)
+
+abbrev foundTails : List (List ℕ)
+foundTails =
+    (value (firstApart desks desk3 (id 4 1) 1) ∷ value (firstApart desks desk3 (id 4 1) 2) ∷ value (firstApart desks desk3 (id 4 1) 3) ∷ value (firstApart desks desk3 (id 4 1) 4) ∷ [])
+    ∷ (tail 5 (id 1 3 ∷ []) ∷ [])
+    ∷ (value (firstApart desks (receives (marks (receives (fresh 2) (chain 3))) (f1 4 ∷ f1 5 ∷ [])) (id 2 1) 1) ∷ [])
+    ∷ (tail 3 (id 1 3 ∷ []) ∷ tail 3 [] ∷ [])
+    ∷ (tail 1 (id 1 1 ∷ []) ∷ tail 1 [] ∷ tail 0 [] ∷ [])
+    ∷ []
+
 abbrev sameNumbers : List ℕ → List ℕ → Bool
 sameNumbers [] [] = true
 sameNumbers [] (y ∷ ys) = false
@@ -238,6 +254,6 @@ equal (x ∷ xs) [] = false
 equal (x ∷ xs) (y ∷ ys) = sameNumbers x y && equal xs ys
 
 pub examples : T (equal found starred) × T (equal foundPinned pinned) × T (equal foundShort short) × T (equal foundClicks clicks)
-    × T (equal foundCounted counted) × T (equal foundConverted converted)
+    × T (equal foundCounted counted) × T (equal foundConverted converted) × T (equal foundTails tails)
 unfolding isDesk isNumber boxRule at2 at4 bytes2 bytes4 pastIn fieldsOf headOf frameOf lengthBad versionBad countBad partBad fieldsBad entryBad entriesBad outputShort readFields readEntries writeSize same isHead heads previous ready missingEntries lacksPrevious missing reckoning falseEntries falseStamp concurrent new fieldsOfMark frameOfMark sizeOfMark markIn full newMark markAnswer mark refuse executing arrive unmade sameFields receiveMark receive relate apartOf firstApart frameAgainSize frameAgainBytes toSecondMark toSecondSize toSecondBytes toFirstMark toFirstSize toFirstBytes
-examples = (tt, tt, tt, tt, tt, tt)
+examples = (tt, tt, tt, tt, tt, tt, tt)

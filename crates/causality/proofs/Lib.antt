@@ -19,5 +19,6 @@ pub mod Kept
 pub mod Conversions
 pub mod RowLaws
 pub mod Apart
+pub mod Tail
 pub mod RowCounts
 pub mod Laws

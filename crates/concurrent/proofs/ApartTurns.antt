@@ -14,13 +14,12 @@ use Rattle.frame.specs.Mark.{MarkId}
 use Rattle.causality.specs.Marks.{keep, places, same}
 use Rattle.causality.specs.State.{Mark, concurrent, ids, precedes}
 use Rattle.causality.proofs.Apart.{follower-cong, follower-new, followers, noted, reached-by-row, reachedBy, someFollower}
-use Rattle.causality.proofs.Logic.{T→eq, nT→eq, same-refl, same→eq, split}
+use Rattle.causality.proofs.Logic.{T→eq, nT→eq, not-leb, same-refl, same→eq, split}
 use Rattle.causality.proofs.Reach.{Sound}
 use Rattle.pairs.specs.declared.Listed.{Listed}
 use Rattle.rows.specs.View.{Carried, markAt, namesDown, rowAt, rowFn, view}
 use Rattle.rows.proofs.Arrays.{sound-below}
 use Rattle.rows.proofs.Places.{has-at, not-before, precedes-no-earlier, precedes-there}
-use Rattle.rows.proofs.RowSteps.{not-leb}
 use Rattle.rows.proofs.Slots.{zero-one, zeros}
 use Rattle.concurrent.specs.Found.{Spare}
 use Rattle.queries.specs.Steps.{PastTold}

@@ -7,10 +7,10 @@ use frame::NUMBERS;
 use rows::PLACES;
 use waiting::WAITING;
 
-// The desks of the waiting case: that which makes the marks, and that to which they are handed over.
-struct Pair {
-    maker: Desk,
-    taker: Desk,
+// Two desks: that which makes the marks, and that to which they are handed over.
+pub struct Pair {
+    pub maker: Desk,
+    pub taker: Desk,
 }
 
 // A mark is made and handed over.
@@ -28,7 +28,7 @@ fn step(maker: Desk, taker: Desk) -> Pair
 }
 
 // So many marks are made and handed over.
-fn steps(maker: Desk, taker: Desk, times: usize) -> Pair
+pub fn steps(maker: Desk, taker: Desk, times: usize) -> Pair
     requires { ⌜ Kept maker × Kept taker ⌝ }
     ensures { λ r. ⌜ Kept (r .maker) × Kept (r .taker) ⌝ }
 {

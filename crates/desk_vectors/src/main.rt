@@ -10,6 +10,7 @@ mod scenario;
 mod show;
 mod sixteen;
 mod sums;
+mod tails;
 
 fn main() {
     scenario::run();
@@ -20,6 +21,7 @@ fn main() {
     missing::run();
     clicks::run();
     editions::run();
+    tails::run();
     limits::waiting();
     limits::full();
     sixteen::run();

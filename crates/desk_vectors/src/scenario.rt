@@ -117,6 +117,7 @@ fn first_apart(desk: Desk)
     calls::first_apart(desk, 4, 1, 1);
     calls::first_apart(desk, 4, 1, 2);
     calls::first_apart(desk, 4, 1, 3);
+    calls::first_apart(desk, 4, 1, 4);
     calls::first_apart(desk, 4, 1, DESKS + 1);
     calls::first_apart(desk, 4, 2, 1);
     calls::first_apart(desk, 4, 2, DESKS + 1);

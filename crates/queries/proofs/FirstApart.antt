@@ -1,7 +1,7 @@
 -- First apart by how many of a desk's marks stand before a place, and how many of these precede the mark there. n: how many desks. Assumes nothing.
 use Prim.Native.Nat.{_<_, _≤_, suc, zero, ℕ}
-use lib.Dec.{T, leb, ltb, ltb→lt, nltb→le, not-T}
-use mathlib.Core.Bool.{Bool, _&&_, false, not, true}
+use lib.Dec.{T, ltb, ltb→lt, nltb→le, not-T}
+use mathlib.Core.Bool.{Bool, false, not, true}
 use mathlib.Core.List.{List}
 use mathlib.Core.Logic.{inl, inr}
 use mathlib.Core.Path.{_∙_, _≡_, ap, refl, subst, sym}
@@ -10,22 +10,18 @@ use Rattle.frame.specs.Answer.{gives, refuseIf, refused}
 use Rattle.frame.specs.Mark.{MarkId, isDesk}
 use Rattle.causality.specs.Calls.{earlier, firstApart, lowestNumber}
 use Rattle.causality.specs.Marks.{find, has, keep, places, same, tally}
-use Rattle.causality.specs.State.{Mark, State, concurrent, ids, markId, precedes}
-use Rattle.causality.proofs.Apart.{lowest-above, lowestAbove}
+use Rattle.causality.specs.State.{Mark, State, concurrent, ids, markId}
+use Rattle.causality.proofs.Apart.{lowestAbove}
 use Rattle.causality.proofs.Logic.{T→eq, nT→eq, same-refl, same→eq, split}
-use Rattle.causality.proofs.Past.{prefix-le}
-use Rattle.causality.proofs.Reach.{Sound, precedes-listed, sound-counted}
+use Rattle.causality.proofs.Reach.{Sound}
+use Rattle.causality.proofs.Tail.{first-of-run}
 use Rattle.executed.specs.Rows.{Finds, Lent}
 use Rattle.executed.proofs.Chain.{found-inside, found-place}
 use Rattle.rows.specs.View.{Carried, markAt, placeAt, view, width}
-use Rattle.rows.proofs.Arrays.{sound-below}
 use Rattle.rows.proofs.Places.{found-none, found-some, has-at, not-before}
-use Rattle.rows.proofs.RowSteps.{not-leb}
 use Rattle.queries.specs.Lent.{lent}
-use Rattle.queries.specs.Steps.{MadeBefore}
+use Rattle.queries.specs.Steps.{FirstRunAt, MadeBefore}
 use Rattle.queries.proofs.MadeBefore.{made-first}
-use Rattle.queries.proofs.PastRow.{precedes-view}
-use Rattle.queries.proofs.Seen.{SeenOf}
 
 -- The answer by its two tests.
 answer-as : (N : ℕ) (st : State) (a : MarkId) (d : ℕ) (x y : Bool) (v : ℕ) → isDesk N d ≡ x → has a (ids (st .executed)) ≡ y
@@ -58,38 +54,13 @@ module _ (n : ℕ) (ds ns : List ℕ) (bs : ℕ → Carried) (ss : List ℕ) whe
       m : Mark
       m = markAt n ds ns bs ss k
 
-  -- Of a desk's marks before place p those with numbers up to R precede that at p; the others are concurrent with it.
-  module _ (count p : ℕ) (s : Sound (view n count ds ns bs ss)) (h : p < count) (d R : ℕ) (told : SeenOf n ds ns ss p d (tally d (ids (view n p ds ns bs ss))) R) where
-    abbrev a : MarkId
-    a = (markAt n ds ns bs ss p) .id
-
-    below : Sound (view n p ds ns bs ss)
-    below = sound-below n count ds ns bs ss s p (omega arith)
-
-    older : T (has a (ids (view n p ds ns bs ss))) → ⊥
-    older = not-before n ds ns bs ss count p p s h (omega arith)
-
-    apart-before : (i : MarkId) → T (has i (ids (view n p ds ns bs ss))) → i .desk ≡ d → concurrent (view n count ds ns bs ss) a i ≡ ltb R (i .number)
-    unfolding concurrent
-    apart-before i t e = (λ k. not (differ k) && (not (none k) && not (past k))) ∙ not-leb (i .number) R
-      where
-        differ : same a i ≡ false
-        differ = nT→eq (same a i) (not-T (same a i) (λ u. older (rw (same→eq a i u) t)))
-
-        none : precedes (view n count ds ns bs ss) a i ≡ false
-        none = precedes-view n ds ns bs ss count p s (omega arith) a i t
-            ∙ nT→eq (precedes (view n p ds ns bs ss) a i) (not-T (precedes (view n p ds ns bs ss) a i) (λ u. older ((precedes-listed (view n p ds ns bs ss) below a i u) .0)))
-
-        past : precedes (view n count ds ns bs ss) i a ≡ leb (i .number) R
-        past =
-            let w = prefix-le (ids (view n p ds ns bs ss)) (sound-counted (view n p ds ns bs ss) below) i t in
-            ap (λ (x : ℕ). precedes (view n count ds ns bs ss) (record { desk = x; number = i .number }) a) e ∙ told count bs h s (i .number) (w .0) (rw e at (w .1))
-
-    -- The lowest number of the desk's marks before p that are above R.
-    first-at : lowestNumber d (keep (concurrent (view n count ds ns bs ss) a) (earlier a (ids (view n count ds ns bs ss)))) ≡ lowestAbove R (tally d (ids (view n p ds ns bs ss)))
-    first-at =
-        ap (λ (x : List MarkId). lowestNumber d (keep (concurrent (view n count ds ns bs ss) a) x)) (earlier-at count p s h)
-        ∙ lowest-above d R (concurrent (view n count ds ns bs ss) a) (ids (view n p ds ns bs ss)) (sound-counted (view n p ds ns bs ss) below) apart-before
+  -- Of a desk's marks before place p those with numbers up to R precede that at p: the lowest of the others.
+  first-at : (count p : ℕ) → Sound (view n count ds ns bs ss) → p < count → (d R : ℕ) → FirstRunAt n ds ns ss p d (tally d (ids (view n p ds ns bs ss))) R
+      → lowestNumber d (keep (concurrent (view n count ds ns bs ss) ((markAt n ds ns bs ss p) .id)) (earlier ((markAt n ds ns bs ss p) .id) (ids (view n count ds ns bs ss))))
+      ≡ lowestAbove R (tally d (ids (view n p ds ns bs ss)))
+  first-at count p s h d R run =
+      let e = ap (tally d) (earlier-at count p s h) in
+      first-of-run (view n count ds ns bs ss) s ((markAt n ds ns bs ss p) .id) d R (λ k lo hi. run count bs h s k lo (rw e at hi)) ∙ ap (lowestAbove R) e
 
   module _ (N own count p : ℕ) (waiting : List Mark) (a : MarkId) (found : placeAt n count p ds ns bs ss ≡ find markId a (view n count ds ns bs ss)) where
     abbrev state : State
@@ -98,13 +69,13 @@ module _ (n : ℕ) (ds ns : List ℕ) (bs : ℕ → Carried) (ss : List ℕ) whe
     first-not-executed : (d : ℕ) → isDesk N d ≡ true → count ≤ p → firstApart N (record { own = own; executed = view n count ds ns bs ss; waiting = waiting }) a d ≡ refused 12
     first-not-executed d e h = answer-as N state a d true false _ e (found-none n ds ns bs ss count p a h found .1) refl
 
-    first-given : (d : ℕ) → isDesk N d ≡ true → p < count → Sound (view n count ds ns bs ss) → (R made : ℕ) → made ≡ tally d (ids (view n p ds ns bs ss)) → SeenOf n ds ns ss p d made R
+    first-given : (d : ℕ) → isDesk N d ≡ true → p < count → Sound (view n count ds ns bs ss) → (R made : ℕ) → made ≡ tally d (ids (view n p ds ns bs ss)) → FirstRunAt n ds ns ss p d made R
         → firstApart N (record { own = own; executed = view n count ds ns bs ss; waiting = waiting }) a d ≡ gives (lowestAbove R made)
     first-given d e h s R made em told =
         let x = found-some n ds ns bs ss count p a h found in
         answer-as N state a d true true _ e (T→eq (has a (ids (view n count ds ns bs ss))) (x .2))
         (subst (λ (i : MarkId). lowestNumber d (keep (concurrent (view n count ds ns bs ss) i) (earlier i (ids (view n count ds ns bs ss)))) ≡ lowestAbove R (tally d (ids (view n p ds ns bs ss)))) (x .1)
-        (first-at count p s h d R (subst (λ (k : ℕ). SeenOf n ds ns ss p d k R) em told)) ∙ ap (lowestAbove R) (sym em))
+        (first-at count p s h d R (subst (λ (k : ℕ). FirstRunAt n ds ns ss p d k R) em told)) ∙ ap (lowestAbove R) (sym em))
 
 -- LENT ARRAYS
 
@@ -116,8 +87,8 @@ module _ (count : ℕ) (ds ns ss ts ls bf : List ℕ) (l : Lent count ds ns ts l
   pub first-none : places ≤ p → firstApart width (lent count ds ns ss own bs waiting) a d ≡ refused 12
   first-none h = let w = l .few in first-not-executed width ds ns bs ss width own count p waiting a at d e (omega arith)
 
-  pub first-lowest : p < places → Sound (view width count ds ns bs ss) → (R made q : ℕ) → MadeBefore ts ls bf d p made q → SeenOf width ds ns ss p d made R
+  pub first-lowest : p < places → Sound (view width count ds ns bs ss) → (R made : ℕ) → MadeBefore ts ls bf d p made → FirstRunAt width ds ns ss p d made R
       → firstApart width (lent count ds ns ss own bs waiting) a d ≡ gives (lowestAbove R made)
-  first-lowest h s R made q m told =
+  first-lowest h s R made m told =
       let i = found-inside count ds ns ts ls bf l a p f h in
-      first-given width ds ns bs ss width own count p waiting a at d e i s R made (made-first count p d made q ds ns ts ls bf l m (omega arith) bs ss) told
+      first-given width ds ns bs ss width own count p waiting a at d e i s R made (made-first count p d made ds ns ts ls bf l m (omega arith) bs ss) told

@@ -6,18 +6,16 @@ use lib.ListN.{getD, length}
 use mathlib.Core.Bool.{not}
 use mathlib.Core.List.{List, [], _∷_}
 use mathlib.Core.Logic.{_⊎_, inl, inr}
-use mathlib.Core.Path.{_∙_, _≡_, ap, refl, subst, sym}
-use native.Mathlib.Numerals.{sub-one}
+use mathlib.Core.Path.{_∙_, _≡_, ap, refl, sym}
 use native.Mathlib.Omega.{arith}
 use Rattle.frame.specs.Mark.{MarkId}
 use Rattle.causality.specs.Marks.{places, tally}
 use Rattle.causality.specs.State.{ids}
 use Rattle.causality.proofs.Logic.{T→eq, nT→eq, split}
-use Rattle.causality.proofs.Past.{Counted}
 use Rattle.executed.specs.Rows.{Chain, Chained, Lent, lastIn}
 use Rattle.rows.specs.View.{Carried, nameAt, namesDown, view, width}
 use Rattle.rows.proofs.Places.{ids-names}
-use Rattle.queries.specs.Steps.{Down, MadeBefore, upTo}
+use Rattle.queries.specs.Steps.{MadeBefore, upTo}
 
 -- The newest of the names is of desk d, or another's.
 module _ (d : ℕ) (i : MarkId) (is : List MarkId) where
@@ -37,6 +35,10 @@ among p i is h = rw (lt-ltb (length is) p h, upTo) refl
 last-few : (d : ℕ) (is : List MarkId) → lastIn d is ≤ length is
 last-few d [] = omega arith
 last-few d (i ∷ is) = elim (split (eqb d (i .desk))) [ inl t ↦ omega (arith, own d i is t .0) | inr t ↦ omega (arith, other d i is t .0, last-few d is) ]
+
+tally-few : (d : ℕ) (is : List MarkId) → tally d is ≤ length is
+tally-few d [] = omega arith
+tally-few d (i ∷ is) = elim (split (eqb d (i .desk))) [ inl t ↦ omega (arith, own d i is t .1, tally-few d is) | inr t ↦ omega (arith, other d i is t .1, tally-few d is) ]
 
 -- The walk down the chain of desk d to a place p, by the names that it has not passed: k of them are of desk d, the last of these at q, plus 1.
 pub record Walk (bf : List ℕ) (d p : ℕ) (is : List MarkId) (k q : ℕ) : Type 0 where
@@ -83,13 +85,13 @@ module _ (bf : List ℕ) (d p : ℕ) where
           }
 
   -- No mark of the desk is left behind the place.
-  all-first : (is : List MarkId) → lastIn d is ≤ p → (tally d is ≡ tally d (upTo p is)) × (lastIn d is ≡ lastIn d (upTo p is))
-  all-first [] h = (refl, refl)
+  all-first : (is : List MarkId) → lastIn d is ≤ p → tally d is ≡ tally d (upTo p is)
+  all-first [] h = refl
   all-first (i ∷ is) h = elim (split (ltb (length is) p)) [
-    | inl t ↦ let e = sym (among p i is (ltb→lt (length is) p t)) in (ap (tally d) e, ap (lastIn d) e)
+    | inl t ↦ ap (tally d) (sym (among p i is (ltb→lt (length is) p t)))
     | inr t ↦ let b = nltb→le (length is) p t in elim (split (eqb d (i .desk))) [
       | inl u ↦ let z : ⊥ = omega (arith, own d i is u .0) in absurd z
-      | inr u ↦ let e = sym (behind p i is b) in let r = all-first is (omega (arith, other d i is u .0)) in (other d i is u .1 ∙ r .0 ∙ ap (tally d) e, other d i is u .0 ∙ r .1 ∙ ap (lastIn d) e)
+      | inr u ↦ other d i is u .1 ∙ all-first is (omega (arith, other d i is u .0)) ∙ ap (tally d) (sym (behind p i is b))
     ]
   ]
 
@@ -115,8 +117,8 @@ module _ (bf : List ℕ) (d p : ℕ) where
         some-of [] x = x
         some-of (i ∷ xs) x = elim (split (eqb d (i .desk))) [ inl t ↦ omega (arith, own d i xs t .1) | inr t ↦ let o = other d i xs t in let l = o .0 in let y = some-of xs (omega arith) in omega (arith, o .1) ]
 
-    pub walk-end : q ≤ p → (k ≡ tally d (upTo p is)) × (q ≡ lastIn d (upTo p is))
-    walk-end h = let l = w .last in let r = all-first (w .rest) (omega arith) in (w .count ∙ r .0 ∙ ap (tally d) (w .same-first), l ∙ r .1 ∙ ap (lastIn d) (w .same-first))
+    pub walk-end : q ≤ p → k ≡ tally d (upTo p is)
+    walk-end h = let l = w .last in w .count ∙ all-first (w .rest) (omega arith) ∙ ap (tally d) (w .same-first)
 
 -- The walk starts at the desk's last mark.
 pub walk-start : (is : List MarkId) (ts ls bf : List ℕ) → Chain is ts ls bf → (d p : ℕ) → 1 ≤ d → d ≤ width → Walk bf d p is (getD ts (d - 1) 0) (getD ls (d - 1) 0)
@@ -131,7 +133,7 @@ walk-start is ts ls bf c d p lo hi =
       same-first = refl;
     }
 
--- DOWN THE CHAIN
+-- THE FIRST NAMES
 
 names-length : (k : ℕ) (ds ns : List ℕ) → length (namesDown k ds ns) ≡ k
 names-length zero ds ns = refl
@@ -144,64 +146,14 @@ first-names (suc k) p ds ns h = let m = names-length k ds ns in elim (split (ltb
   | inr t ↦ let o = nltb→le k p t in behind p (nameAt ds ns k) (namesDown k ds ns) (omega arith) ∙ first-names k p ds ns o
 ]
 
--- What holds of names holds of the first of them.
-counted-less : (count p : ℕ) (ds ns : List ℕ) → p ≤ count → Counted (namesDown count ds ns) → Counted (namesDown p ds ns)
-counted-less zero p ds ns h c = let e : 0 ≡ p = omega arith in subst (λ (x : ℕ). Counted (namesDown x ds ns)) e c
-counted-less (suc k) p ds ns h c = elim (split (ltb k p)) [
-  | inl t ↦ let o = ltb→lt k p t in let e : suc k ≡ p = omega arith in subst (λ (x : ℕ). Counted (namesDown x ds ns)) e c
-  | inr t ↦ counted-less k p ds ns (nltb→le k p t) (c .1)
-]
-
-chained-less : (count p : ℕ) (ds ns bf : List ℕ) → p ≤ count → Chained (namesDown count ds ns) bf → Chained (namesDown p ds ns) bf
-chained-less zero p ds ns bf h c = let e : 0 ≡ p = omega arith in subst (λ (x : ℕ). Chained (namesDown x ds ns) bf) e c
-chained-less (suc k) p ds ns bf h c = elim (split (ltb k p)) [
-  | inl t ↦ let o = ltb→lt k p t in let e : suc k ≡ p = omega arith in subst (λ (x : ℕ). Chained (namesDown x ds ns) bf) e c
-  | inr t ↦ chained-less k p ds ns bf (nltb→le k p t) (c .1)
-]
-
-module _ (ds ns bf : List ℕ) (d : ℕ) where
-  -- The chain leads down all marks of the desk.
-  down-names : (p : ℕ) → Counted (namesDown p ds ns) → Chained (namesDown p ds ns) bf → (at : ℕ) → p ≤ at → Down ds ns bf d at (tally d (namesDown p ds ns)) (lastIn d (namesDown p ds ns))
-  down-names zero c b at h = tt
-  down-names (suc p) c b at h = go (split (eqb d (i .desk))) (down-names p (c .1) (b .1))
-    where
-      i : MarkId
-      i = nameAt ds ns p
-
-      is : List MarkId
-      is = namesDown p ds ns
-
-      go : T (eqb d (i .desk)) ⊎ T (not (eqb d (i .desk))) → ((at : ℕ) → p ≤ at → Down ds ns bf d at (tally d is) (lastIn d is)) → Down ds ns bf d at (tally d (i ∷ is)) (lastIn d (i ∷ is))
-      go (inr t) ih = let o = other d i is t in rw (o .1, o .0) (ih at (omega arith))
-      go (inl t) ih =
-          let o = own d i is t in
-          let e : d ≡ i .desk = eqb→eq d (i .desk) t in
-          let n : i .number ≡ suc (tally d is) = c .0 ∙ ap (λ (x : ℕ). suc (tally x is)) (sym e) in
-          let m = names-length p ds ns in
-          let f : getD bf p 0 ≡ lastIn d is = ap (λ (x : ℕ). getD bf x 0) (sym m) ∙ b .0 ∙ ap (λ (x : ℕ). lastIn x is) (sym e) in
-          rw (o .1, o .0 ∙ ap suc m) (omega arith, omega arith, rw (sub-one (suc p)) (λ j. record { desk = sym e j; number = n j }), rw (sub-one (suc p), f) (ih p (omega arith)))
-
-  -- One step down.
-  pub down-some : (at k q : ℕ) → 0 < k → Down ds ns bf d at k q → (1 ≤ q) × (q ≤ at) × (nameAt ds ns (q - 1) ≡ record { desk = d; number = k }) × Down ds ns bf d (q - 1) (k - 1) (getD bf (q - 1) 0)
-  down-some at zero q h x = let z : ⊥ = omega arith in absurd z
-  down-some at (suc k) q h x = (x .0, x .1, x .2, rw (sub-one (suc k)) (x .3))
-
-  -- A mark that stands before an earlier place too.
-  pub down-less : (at to k q : ℕ) → q ≤ to → Down ds ns bf d at k q → Down ds ns bf d to k q
-  down-less at to zero q h x = tt
-  down-less at to (suc k) q h x = (x .0, h, x .2, x .3)
-
 -- LENT ARRAYS
 
-module _ (count p d made q : ℕ) (ds ns ts ls bf : List ℕ) (l : Lent count ds ns ts ls bf) (m : MadeBefore ts ls bf d p made q) (h : p ≤ count) where
-  at-first : (made ≡ tally d (namesDown p ds ns)) × (q ≡ lastIn d (namesDown p ds ns))
-  at-first = let r = m (namesDown count ds ns) (l .chain) in let e = first-names count p ds ns h in (r .0 ∙ ap (tally d) e, r .1 ∙ ap (lastIn d) e)
+module _ (count p d made : ℕ) (ds ns ts ls bf : List ℕ) (l : Lent count ds ns ts ls bf) (m : MadeBefore ts ls bf d p made) (h : p ≤ count) where
+  among-names : made ≡ tally d (namesDown p ds ns)
+  among-names = m (namesDown count ds ns) (l .chain) ∙ ap (tally d) (first-names count p ds ns h)
+
+  pub made-few : made ≤ p
+  made-few = omega (arith, among-names, tally-few d (namesDown p ds ns), names-length p ds ns)
 
   pub made-first : (bs : ℕ → Carried) (ss : List ℕ) → made ≡ tally d (ids (view width p ds ns bs ss))
-  made-first bs ss = at-first .0 ∙ ap (tally d) (sym (ids-names width ds ns bs ss p))
-
-  -- From the last of them the chain leads down all of them.
-  pub made-down : Down ds ns bf d p made q
-  made-down =
-      let c = l .chain in
-      rw (at-first .0, at-first .1) (down-names ds ns bf d p (counted-less count p ds ns h (c .counted)) (chained-less count p ds ns bf h (c .before)) p (omega arith))
+  made-first bs ss = among-names ∙ ap (tally d) (sym (ids-names width ds ns bs ss p))

@@ -1,43 +1,30 @@
 -- The past of the mark at a place, as a row that is traced from the row of its stamp. n: how many desks. Assumes nothing.
-use Prim.Native.Nat.{_*_, _+_, _-_, _<_, _≤_, suc, zero, ℕ}
-use lib.Dec.{T, leb, leb→le, nleb→lt, not-T}
+use Prim.Native.Nat.{_*_, _+_, _-_, _<_, _≤_, suc, ℕ}
+use lib.Dec.{leb, not-T}
 use lib.ListN.{getD, replicate}
 use mathlib.Core.Bool.{Bool, false}
 use mathlib.Core.List.{List}
-use mathlib.Core.Logic.{inl, inr}
-use mathlib.Core.Path.{_∙_, _≡_, ap, refl, subst, sym}
+use mathlib.Core.Path.{_∙_, _≡_, ap, refl, sym}
 use native.Mathlib.Omega.{arith}
 use Rattle.frame.specs.Mark.{MarkId}
 use Rattle.causality.specs.Marks.{has}
 use Rattle.causality.specs.State.{Mark, ids, precedes}
 use Rattle.causality.proofs.Apart.{trace-counts}
-use Rattle.causality.proofs.Logic.{nT→eq, split}
+use Rattle.causality.proofs.Logic.{nT→eq}
 use Rattle.causality.proofs.Past.{prefix-le}
-use Rattle.causality.proofs.Reach.{Sound, not-new, precedes-old, sound-counted}
+use Rattle.causality.proofs.Reach.{Sound, sound-counted}
 use Rattle.causality.proofs.RowLaws.{row-of-entries, under, under-trace}
 use Rattle.causality.proofs.Rows.{rowOf, trace}
 use Rattle.rows.specs.View.{Carried, Named, markAt, nameAt, rowAt, rowFn, view}
 use Rattle.rows.proofs.Arrays.{sound-below}
 use Rattle.rows.proofs.ByRows.{row-at, under-cong}
-use Rattle.rows.proofs.Places.{has-at, has-more, named-has, not-before, precedes-there}
+use Rattle.rows.proofs.Places.{has-at, named-has, not-before, precedes-there}
 use Rattle.rows.proofs.RowSteps.{named-at, named-desks, named-less}
 use Rattle.rows.proofs.Slots.{zeros}
 use Rattle.queries.specs.Steps.{PastTold}
 use Rattle.queries.proofs.Reaching.{no-row, reached}
 
 module _ (n : ℕ) (ds ns : List ℕ) (bs : ℕ → Carried) (ss : List ℕ) where
-  -- What precedes a listed mark is settled by the marks before its place.
-  pub precedes-view : (count k : ℕ) → Sound (view n count ds ns bs ss) → k ≤ count → (a i : MarkId) → T (has i (ids (view n k ds ns bs ss)))
-      → precedes (view n count ds ns bs ss) a i ≡ precedes (view n k ds ns bs ss) a i
-  unfolding view
-  precedes-view zero k s h a i t = let e : 0 ≡ k = omega arith in subst (λ (x : ℕ). precedes (view n 0 ds ns bs ss) a i ≡ precedes (view n x ds ns bs ss) a i) e refl
-  precedes-view (suc c) k s h a i t = elim (split (leb k c)) [
-    | inl u ↦ let l = leb→le k c u in
-        precedes-old (markAt n ds ns bs ss c) (view n c ds ns bs ss) a i (not-new (markAt n ds ns bs ss c) (view n c ds ns bs ss) s i (has-more n ds ns bs ss k c l i t))
-        ∙ precedes-view c k (s .1) l a i t
-    | inr u ↦ let l = nleb→lt k c u in let e : suc c ≡ k = omega arith in subst (λ (x : ℕ). precedes (view n (suc c) ds ns bs ss) a i ≡ precedes (view n x ds ns bs ss) a i) e refl
-  ]
-
   -- What the row of its stamp reaches counts the marks that precede that at place p.
   pub reached-counts : (count p : ℕ) → p < count → Named n p ds → Sound (view n count ds ns bs ss) → (row : List ℕ) → ((j : ℕ) → j < n → getD row j 0 ≡ getD ss (p * n + j) 0)
       → (i : MarkId) → 1 ≤ i .desk → i .desk ≤ n → 1 ≤ i .number

@@ -1,17 +1,19 @@
 -- What the inner functions of the queries find. Inner: need not be believed.
-use mathlib.Core.Bool.{Bool, true, false}
+use mathlib.Core.Bool.{Bool, true, false, _&&_, _||_}
 use mathlib.Core.List.{List, [], _∷_}
 use mathlib.Core.Path.{_≡_}
-use Prim.Native.Nat.{ℕ, zero, suc, min, _-_, _≤_, _<_}
-use lib.Dec.{T, leb, ltb}
-use lib.ListN.{length, getD}
+use Prim.Native.Nat.{ℕ, suc, min, _-_, _≤_, _<_}
+use lib.Dec.{T, eqb, leb, ltb}
+use lib.ListN.{length, getD, take}
 use Rattle.frame.specs.Mark.{MarkId}
 use Rattle.causality.specs.Marks.{has, tally}
 use Rattle.causality.specs.State.{ids, precedes}
 use Rattle.causality.proofs.Reach.{Sound}
 use Rattle.causality.proofs.RowLaws.{under}
-use Rattle.executed.specs.Rows.{Chain, lastIn}
-use Rattle.rows.specs.View.{Carried, Named, nameAt, namesDown, rowFn, view, width}
+use Rattle.executed.specs.Rows.{Chain}
+use Rattle.rows.specs.View.{Carried, Named, nameAt, rowAt, rowFn, view, width}
+use Rattle.queries.specs.declared.first_apart.Searched.{Searched}
+use Rattle.queries.specs.Halving.{halving, mostAsks}
 
 -- Of a mark that is none of the first `to`, r says whether entries lead to it from a row and the marks before a place.
 abbrev pub Leads : List ℕ → List ℕ → List ℕ → List ℕ → ℕ → ℕ → MarkId → Bool → Type 0
@@ -39,15 +41,39 @@ abbrev pub upTo : ℕ → List MarkId → List MarkId
 upTo p [] = []
 upTo p (i ∷ is) = elim (ltb (length is) p) [ true ↦ i ∷ is | false ↦ upTo p is ]
 
--- So many marks of desk d are among the first p, by the kept chain of places, and the last of them is at place q − 1; 0 is none.
-abbrev pub MadeBefore : List ℕ → List ℕ → List ℕ → ℕ → ℕ → ℕ → ℕ → Type 0
-MadeBefore ts ls bf d p count q = (is : List MarkId) → Chain is ts ls bf → (count ≡ tally d (upTo p is)) × (q ≡ lastIn d (upTo p is))
+-- So many marks of desk d are among the first p, by the kept chain of places.
+abbrev pub MadeBefore : List ℕ → List ℕ → List ℕ → ℕ → ℕ → ℕ → Type 0
+MadeBefore ts ls bf d p count = (is : List MarkId) → Chain is ts ls bf → count ≡ tally d (upTo p is)
 
--- Down the chain of desk d from its mark k, which stands before place `at`: at q − 1, and each earlier one where the chain leads.
-abbrev pub Down : List ℕ → List ℕ → List ℕ → ℕ → ℕ → ℕ → ℕ → Type 0
-Down ds ns bf d at zero q = Unit {0}
-Down ds ns bf d at (suc k) q = (1 ≤ q) × (q ≤ at) × (nameAt ds ns (q - 1) ≡ record { desk = d; number = suc k }) × Down ds ns bf d (q - 1) k (getD bf (q - 1) 0)
+-- What a row has come to at place q, followed from place `at` over the marks between and no others, at desk d.
+abbrev pub followedTo : List ℕ → List ℕ → (ℕ → Carried) → List ℕ → List ℕ → ℕ → ℕ → ℕ → ℕ
+followedTo ds ns bs ss row at q d = under (take (at - q) (view width at ds ns bs ss)) (λ d. 0) (rowFn row) d
 
--- Of the first k marks of desk d, r are reached from a row and the marks before a place. n: how many desks.
-abbrev pub SeenFrom : ℕ → List ℕ → List ℕ → List ℕ → List ℕ → ℕ → ℕ → ℕ → ℕ → Type 0
-SeenFrom n ds ns ss row at d k r = (bs : ℕ → Carried) → Sound (view n at ds ns bs ss) → r ≡ min k (under (view n at ds ns bs ss) (λ d. 0) (rowFn row) d)
+-- An ask of mark i ends at place q: the row, of which x is the count at the mark's desk, counts the mark; or no place is left; or the next mark down is
+-- the mark itself or an earlier one of its desk.
+abbrev pub endsAt : List ℕ → List ℕ → MarkId → ℕ → ℕ → Bool
+endsAt ds ns i q x = leb (i .number) x || (eqb q 0 || (eqb (getD ds (q - 1) 0) (i .desk) && leb (getD ns (q - 1) 0) (i .number)))
+
+-- An ask of mark i: a row is followed from a place down to r, where it ends and not before.
+pub record AskedOf (ds ns ss row : List ℕ) (at : ℕ) (i : MarkId) (after : List ℕ) (r : ℕ) : Type 0 where
+  pub less : r ≤ at
+  pub long : length after ≡ width
+  pub counts : (bs : ℕ → Carried) (j : ℕ) → j < width → getD after j 0 ≡ followedTo ds ns bs ss row at r (suc j)
+  pub ends : endsAt ds ns i r (rowFn after (i .desk)) ≡ true
+  pub first : (bs : ℕ → Carried) (q : ℕ) → r < q → q ≤ at → endsAt ds ns i q (followedTo ds ns bs ss row at q (i .desk)) ≡ false
+
+-- Does mark k of desk d precede the mark at place p, among so many marks? n: how many desks.
+abbrev pub numberPrecedes : ℕ → ℕ → List ℕ → List ℕ → (ℕ → Carried) → List ℕ → ℕ → ℕ → ℕ → Bool
+numberPrecedes n count ds ns bs ss p d k = precedes (view n count ds ns bs ss) (record { desk = d; number = k }) (nameAt ds ns p)
+
+-- Of the first t marks of desk d, those up to r precede the mark at place p, however many marks there are.
+abbrev pub FirstRunAt : ℕ → List ℕ → List ℕ → List ℕ → ℕ → ℕ → ℕ → ℕ → Type 0
+FirstRunAt n ds ns ss p d t r = (count : ℕ) (bs : ℕ → Carried) → p < count → Sound (view n count ds ns bs ss)
+    → (k : ℕ) → 1 ≤ k → k ≤ t → numberPrecedes n count ds ns bs ss p d k ≡ leb k r
+
+-- So many of the first t marks of desk d precede that at place p. This was asked of those that halving takes, above the entry of its stamp.
+pub record SearchedOf (ds ns ss : List ℕ) (p d t : ℕ) (r : Searched) : Type 0 where
+  pub few : r .precede ≤ t
+  pub run : FirstRunAt width ds ns ss p d t (r .precede)
+  pub asks : (count : ℕ) (bs : ℕ → Carried) → p < count → Sound (view width count ds ns bs ss)
+      → r .asks ≡ length (halving (numberPrecedes width count ds ns bs ss p d) mostAsks (min (rowAt width ss p d) t) t)

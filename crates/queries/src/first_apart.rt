@@ -1,14 +1,15 @@
 // First apart: the lowest number of a desk's marks that were executed before a mark and are concurrent with it.
 ghost use mathlib.Core.Path.{_≡_};
-ghost use Prim.Native.Nat.{_≤_};
+ghost use Prim.Native.Nat.{min, _≤_, _<_};
 ghost use lib.ListN.{length};
 ghost use Rattle.causality.specs.Calls.{firstApart};
 ghost use Rattle.causality.specs.Marks.{places};
 ghost use Rattle.causality.specs.Meaning.{idOf, lowestGiven};
 ghost use Rattle.executed.specs.Rows.{HasChain};
 ghost use Rattle.rows.specs.View.{width, Named};
+ghost use Rattle.queries.specs.Halving.{mostAsks};
 ghost use Rattle.queries.specs.Lent.{HasLent, OfEach};
-ghost use Rattle.queries.specs.Steps.{MadeBefore, Down, SeenFrom};
+ghost use Rattle.queries.specs.Steps.{AskedOf, MadeBefore, SearchedOf};
 use causality::Lowest;
 use causality::MarkId;
 use causality::Place;
@@ -24,22 +25,22 @@ fn wide(x: u16) -> usize
     x as usize
 }
 
-// Marks of a desk that stand before a place: how many, and the place of the last of them, plus 1; 0 is none.
-struct Made {
-    count: u16,
-    last: usize,
+fn lesser(x: u16, y: u16) -> u16
+    ensures { λ r. ⌜ r ≡ min x y ⌝ }
+{
+    if x < y { x } else { y }
 }
 
-// The marks of a desk before place p: down its chain of places from the last. q is the place of mark k, plus 1.
+// How many marks of a desk stand before place p: down its chain of places from the last. q is the place of mark k, plus 1.
 fn made_before<'a>(
     tally: &'a [u16; WIDTH],
     last: &'a [u16; WIDTH],
     before: &'a [u16; PLACES],
     desk: u8,
     p: Place,
-) -> Made
+) -> u16
     requires { ⌜ HasChain (now tally) (now last) (now before) × (1 ≤ desk) × (desk ≤ width) ⌝ }
-    ensures { λ r. ⌜ MadeBefore (now (tally .entry)) (now (last .entry)) (now (before .entry)) desk (p .0) (r .count) (r .last) ⌝ }
+    ensures { λ r. ⌜ MadeBefore (now (tally .entry)) (now (last .entry)) (now (before .entry)) desk (p .0) r ⌝ }
 {
     let d = desk as usize - 1;
     let mut k = tally[d];
@@ -48,50 +49,83 @@ fn made_before<'a>(
         q = wide(before[q - 1]);
         k -= 1;
     }
-    Made { count: k, last: q }
+    k
 }
 
-// How many of the first k marks of a desk are reached by entries, from a lent row and the marks before a place: a first run of numbers.
-// Follows entries down until the row counts mark k. Where the place of k is met first, plus 1 that is q, mark k is not reached: k − 1 is next.
-// The place of the examined mark falls at each call.
-fn seen<'a>(
+// Asks whether entries lead from a lent row and the marks before a place to a mark: then the row counts it afterwards. Follows them down until it
+// does, or a mark of the same desk is met that is no later one: no mark there or before names it. Gives the place where it stopped, from which the
+// next ask goes on. The place of the examined mark falls at each call.
+fn ask<'a>(
     desks: &'a [u8; PLACES],
     numbers: &'a [u16; PLACES],
     stamps: &'a [u16; PLACES * WIDTH],
-    before: &'a [u16; PLACES],
     row: &mut [u16; WIDTH],
     at: Place,
-    desk: u8,
-    k: u16,
-    q: usize,
-) -> u16
-    requires { ⌜ (at .0 ≤ places) × Named width (at .0) (now desks) × (length (now row) ≡ width) × (1 ≤ desk) × (desk ≤ width)
-        × Down (now desks) (now numbers) (now before) desk (at .0) k q ⌝ }
-    ensures { λ r. ⌜ SeenFrom width (now (desks .entry)) (now (numbers .entry)) (now (stamps .entry)) (now (row .entry))
-        (at .0) desk k r ⌝ }
+    i: MarkId,
+) -> usize
+    requires { ⌜ (at .0 ≤ places) × Named width (at .0) (now desks) × (length (now row) ≡ width) × (1 ≤ i .desk) × (i .desk ≤ width) ⌝ }
+    ensures { λ r. ⌜ AskedOf (now (desks .entry)) (now (numbers .entry)) (now (stamps .entry)) (now (row .entry)) (at .0)
+        (idOf i) (now (row .exit)) r ⌝ }
 {
-    if k <= row[desk as usize - 1] {
-        return k;
+    let n = i.number;
+    if n.0 <= row[i.desk as usize - 1] {
+        return at.0;
     }
-    let i = at.0 - 1;
-    if at.0 == q {
-        let next = wide(before[i]);
-        return seen(
-            desks,
-            numbers,
-            stamps,
-            before,
-            row,
-            Place(i),
+    if at.0 == 0 {
+        return at.0;
+    }
+    let p = at.0 - 1;
+    if desks[p] == i.desk {
+        if numbers[p] <= n.0 {
+            return at.0;
+        }
+    }
+    if numbers[p] <= row[desks[p] as usize - 1] {
+        predecessors::join(stamps, p, row);
+    }
+    ask(desks, numbers, stamps, row, Place(p), i)
+}
+
+// What the search finds: how many of a desk's marks precede a mark, and of how many that was asked.
+struct Searched {
+    precede: u16,
+    asks: u16,
+}
+
+// How many of the first t marks of a desk, which stand before place p, precede the mark there: a first run of numbers, whose end is found by halving.
+// Marks up to `low` precede, at first those that the stamp's own entry tells of; those above `high` are apart.
+fn search<'a>(
+    desks: &'a [u8; PLACES],
+    numbers: &'a [u16; PLACES],
+    stamps: &'a [u16; PLACES * WIDTH],
+    p: Place,
+    desk: u8,
+    t: u16,
+) -> Searched
+    requires { ⌜ (p .0 < places) × Named width (p .0) (now desks) × (1 ≤ desk) × (desk ≤ width) × (t ≤ places) ⌝ }
+    ensures { λ r. ⌜ SearchedOf (now (desks .entry)) (now (numbers .entry)) (now (stamps .entry)) (p .0) desk t r × (r .asks ≤ mostAsks) ⌝ }
+{
+    let d = desk as usize - 1;
+    let mut row = rows::row_at(stamps, p.0);
+    let mut at = p.0;
+    let mut low = lesser(row[d], t);
+    let mut high = t;
+    let mut asks: u16 = 0;
+    while low < high {
+        let k = high - (high - low) / 2;
+        let i = MarkId {
             desk,
-            k - 1,
-            next,
-        );
+            number: Number(k),
+        };
+        at = ask(desks, numbers, stamps, &mut row, Place(at), i);
+        if k <= row[d] {
+            low = k;
+        } else {
+            high = k - 1;
+        }
+        asks += 1;
     }
-    if numbers[i] <= row[desks[i] as usize - 1] {
-        predecessors::join(stamps, i, row);
-    }
-    seen(desks, numbers, stamps, before, row, Place(i), desk, k, q)
+    Searched { precede: low, asks }
 }
 
 pub fn first_apart<'a>(
@@ -115,21 +149,9 @@ pub fn first_apart<'a>(
         return Lowest::Refused(Refusal::NotExecuted);
     }
     let made = made_before(tally, last, before, desk, Place(p));
-    let k = made.count;
-    let mut row = rows::row_at(stamps, p);
-    let n = seen(
-        desks,
-        numbers,
-        stamps,
-        before,
-        &mut row,
-        Place(p),
-        desk,
-        k,
-        made.last,
-    );
-    if n < k {
-        return Lowest::Number(Number(n + 1));
+    let found = search(desks, numbers, stamps, Place(p), desk, made);
+    if found.precede < made {
+        return Lowest::Number(Number(found.precede + 1));
     }
     Lowest::None
 }

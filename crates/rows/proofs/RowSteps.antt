@@ -4,7 +4,7 @@ use borrow.Author.Tests.{le-leb, le-ltb, leb-false, leb-true, lt-leb, lt-ltb}
 use lib.Dec.{leb, ltb}
 use lib.ListN.{getD, length, length-set, set, take}
 use lib.Seq.{getD-set-other, getD-set-same}
-use mathlib.Core.Bool.{Bool, _&&_, _||_, and-false, false, not, or-true, true}
+use mathlib.Core.Bool.{Bool, _&&_, _||_, and-false, false, or-true, true}
 use mathlib.Core.List.{List, [], _∷_, _++_}
 use mathlib.Core.Logic.{_⊎_, inl, inr, ⊎-elim}
 use mathlib.Core.Path.{_∙_, _≡_, ap, refl, subst, sym}
@@ -76,13 +76,6 @@ reached-yes n j s r b h p l = sym (ap (λ (a : Bool). a || b) (some-reached n j 
 
 pub reached-no : (n j : ℕ) (s r : List ℕ) (a b : Bool) → j ≡ n → someReached j s r ≡ false → a ≡ b → a ≡ (someReached n s r || b)
 reached-no n j s r a b q e p = p ∙ sym (ap (λ (c : Bool). c || b) (subst (λ (i : ℕ). someReached i s r ≡ false) q e))
-
-pub not-leb : (a b : ℕ) → not (leb a b) ≡ ltb b a
-not-leb a b = go (leb a b) refl
-  where
-    go : (t : Bool) → leb a b ≡ t → not t ≡ ltb b a
-    go true q = sym (le-ltb b a (leb-true a b q))
-    go false q = sym (lt-ltb b a (leb-false a b q))
 
 -- Mark number n of a desk is counted by the greater of two counts.
 pub counted-first : (n a b : ℕ) → n ≤ a → true ≡ leb n (max a b)

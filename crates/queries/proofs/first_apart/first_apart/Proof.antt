@@ -3,7 +3,6 @@ use mathlib.Core.Bool.{true}
 use mathlib.Core.List.{List}
 use mathlib.Core.Path.{_∙_, _≡_, ap, sym}
 use Prim.Native.Nat.{_≤_, ℕ}
-use lib.ListN.{length}
 use borrow.Author.Needs.{needs}
 use borrow.Author.Tests.{not-false, not-true}
 use native.Mathlib.Numerals.{add-one}
@@ -22,8 +21,7 @@ use Rattle.rows.specs.View.{Carried, Named, view, width}
 use Rattle.rows.proofs.RowSteps.{named-less}
 use Rattle.queries.specs.Lent.{lent}
 use Rattle.queries.proofs.FirstApart.{first-lowest, first-no-desk, first-none}
-use Rattle.queries.proofs.MadeBefore.{made-down}
-use Rattle.queries.proofs.Seen.{seen-of}
+use Rattle.queries.proofs.MadeBefore.{made-few}
 use Rattle.queries.proofs.first_apart.first_apart.Statement.{statement}
 use Rattle.queries.proofs.first_apart.first_apart.Tie as tie
 
@@ -52,42 +50,35 @@ named c =
     let i = found-inside _ _ _ _ _ _ m _ _ (f .find .ensures) (c .if2 .left) in
     named-less width (s .pre .count) _ _ (m .named) (omega arith)
 
--- The row of the place has a count for each desk.
-row-long : (c : tie.After-row) → length (c .before .row-at .result) ≡ width
-row-long c = search (needs, c .before .row-at .ok)
-
-seen-requires : tie.Need-seen-requires
-seen-requires c κs =
-    let d = c .before .before .before in
-    let e = d .before in
+search-requires : tie.Need-search-requires
+search-requires c κs =
+    let e = c .before in
     let f = e .before in
     let s = f .before .before .before in
     let m = s .pre .marks in
     let r = in-range (f .before) in
     let z = e .if2 .left in
     let i = found-inside _ _ _ _ _ _ m _ _ (f .find .ensures) z in
-    (omega arith, named e, row-long c, r .0, r .1, made-down (s .pre .count) _ _ _ _ _ _ _ _ _ m (d .made-before .ensures) (omega arith))
+    let t = made-few (s .pre .count) _ _ _ _ _ _ _ _ m (c .made-before .ensures) (omega arith) in
+    (z, named e, r .0, r .1, omega arith)
 
 -- What is given once the marks before the place are counted, and those of them that precede.
-given : (c : tie.After-seen) → let m = c .before .before .before .before in
+given : (c : tie.After-search) → let m = c .before in
     let a = m .before .before .before .before .before .args in
     (count own : ℕ) (bs : ℕ → Carried) (waiting : List Mark) → Lent count (a .desks .now) (a .numbers .now) (a .tally .now) (a .last .now) (a .before .now)
     → Sound (view width count (a .desks .now) (a .numbers .now) bs (a .stamps .now))
-    → firstApart width (lent count (a .desks .now) (a .numbers .now) (a .stamps .now) own bs waiting) (idOf (a .a)) (a .desk) ≡ gives (lowestAbove (c .seen .result) (m .made-before .result .count))
+    → firstApart width (lent count (a .desks .now) (a .numbers .now) (a .stamps .now) own bs waiting) (idOf (a .a)) (a .desk) ≡ gives (lowestAbove (c .search .result .precede) (m .made-before .result))
 given c count own bs waiting l sound =
-    let r = c .before .before in
-    let m = r .before .before in
+    let m = c .before in
     let e = m .before in
     let f = e .before in
-    let o = in-range (f .before) in
-    first-lowest _ _ _ _ _ _ _ l own bs waiting _ _ (f .find .ensures) _ (is-desk (f .before)) (e .if2 .left) sound (c .seen .result) _ _ (m .made-before .ensures)
-    (seen-of width _ _ _ (r .row-at .result) _ _ _ _ (named e) (o .0) (o .1) (r .row-at .ensures) (c .seen .ensures))
+    first-lowest _ _ _ _ _ _ _ l own bs waiting _ _ (f .find .ensures) _ (is-desk (f .before)) (e .if2 .left) sound (c .search .result .precede) _ (m .made-before .ensures) (c .search .ensures .0 .run)
 
 returns-3 : tie.Need-returns-3
-returns-3 c count own bs waiting l sound = sym (given (c .before) count own bs waiting l sound ∙ ap gives (above-yes _ _ (c .if3 .taken) ∙ sym (add-one _)))
+returns-3 c count own bs waiting l sound = sym (given (c .before .before .before) count own bs waiting l sound ∙ ap gives (above-yes _ _ (c .before .if3 .taken) ∙ sym (add-one _)))
 
 returns-4 : tie.Need-returns-4
-returns-4 c count own bs waiting l sound = sym (given (c .before) count own bs waiting l sound ∙ ap gives (above-no _ _ (c .if3 .left)))
+returns-4 c count own bs waiting l sound = sym (given (c .before .before) count own bs waiting l sound ∙ ap gives (above-no _ _ (c .if3 .left)))
 
 pub first-apart-spec : {M : Type 1} → statement M
 first-apart-spec =
@@ -98,8 +89,7 @@ first-apart-spec =
     (λ c κs. search needs)
     returns-2
     made-before-requires
-    (λ c κs. search needs)
-    seen-requires
+    search-requires
     (λ c. search needs)
     returns-3
     returns-4)
