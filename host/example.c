@@ -164,6 +164,7 @@ static void check_first_apart(void)
     check(kaungimewe_first_apart(&desk[3], 4, 1, 1).number == 2, "first apart of 4.1 at desk 1");
     check(kaungimewe_first_apart(&desk[3], 4, 1, 2).number == 1, "first apart of 4.1 at desk 2");
     check(kaungimewe_first_apart(&desk[3], 4, 1, 3).number == 0, "first apart of 4.1 at desk 3");
+    check(kaungimewe_first_apart(&desk[3], 4, 1, 4).number == 0, "first apart of 4.1 at desk 4");
     check(kaungimewe_first_apart(&desk[3], 4, 1, 17).refusal == KAUNGIMEWE_DESK_RANGE, "desk 17");
 }
 

@@ -42,6 +42,7 @@ fn examples_are_answered_as_stored() {
     assert_eq!(printed(&["run", "waiting.txt"], ""), stored("waiting.out"));
     assert_eq!(printed(&["run", "clicks.txt"], ""), stored("clicks.out"));
     assert_eq!(printed(&["run", "editions.txt"], ""), stored("editions.out"));
+    assert_eq!(printed(&["run", "first_apart.txt"], ""), stored("first_apart.out"));
 }
 
 #[test]

@@ -101,7 +101,7 @@ fn apart_and_relations_of_the_scenario() {
     let mut apart = [id(0, 0); 3];
     assert_eq!(desk.apart(id(4, 1), &mut apart), Ok(3));
     assert_eq!(apart, [id(2, 1), id(1, 2), id(2, 2)]);
-    assert_eq!([1, 2, 3].map(|d| desk.first_apart(id(4, 1), d)), [Ok(2), Ok(1), Ok(0)]);
+    assert_eq!([1, 2, 3, 4].map(|d| desk.first_apart(id(4, 1), d)), [Ok(2), Ok(1), Ok(0), Ok(0)]);
     assert_eq!(desk.relate(id(3, 1), id(4, 1)), Ok(Relation::Before));
     assert_eq!(desk.relate(id(1, 2), id(3, 2)), Ok(Relation::Concurrent));
     assert_eq!(desk.relate(id(2, 2), id(1, 1)), Ok(Relation::After));

@@ -5,6 +5,7 @@ mod compare;
 mod damaged;
 mod editions;
 mod examples;
+mod first_apart;
 mod forged;
 mod full;
 mod lengths;

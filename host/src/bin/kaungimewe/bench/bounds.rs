@@ -29,7 +29,7 @@ pub const BOUNDS: [Bound; 7] = [
     Bound { call: Call::Mark, most: 0.3, beside: Beside::ByReference },
     Bound { call: Call::Relate, most: 0.6, beside: Beside::Clocks },
     Bound { call: Call::Apart, most: 1.5, beside: Beside::ByReference },
-    Bound { call: Call::FirstApart, most: 1.5, beside: Beside::ByReference },
+    Bound { call: Call::FirstApart, most: 1.0, beside: Beside::ByReference },
     Bound { call: Call::FrameAgain, most: 1.5, beside: Beside::ByReference },
     Bound { call: Call::JunkFrame, most: 0.1, beside: Beside::OldJunk },
 ];
