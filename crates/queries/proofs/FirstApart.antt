@@ -87,7 +87,7 @@ module _ (count : ℕ) (ds ns ss ts ls bf : List ℕ) (l : Lent count ds ns ts l
   pub first-none : places ≤ p → firstApart width (lent count ds ns ss own bs waiting) a d ≡ refused 12
   first-none h = let w = l .few in first-not-executed width ds ns bs ss width own count p waiting a at d e (omega arith)
 
-  pub first-lowest : p < places → Sound (view width count ds ns bs ss) → (R made : ℕ) → MadeBefore ts ls bf d p made → FirstRunAt width ds ns ss p d made R
+  pub first-lowest : p < places → Sound (view width count ds ns bs ss) → (R made : ℕ) → MadeBefore ds ns ts ls d p made → FirstRunAt width ds ns ss p d made R
       → firstApart width (lent count ds ns ss own bs waiting) a d ≡ gives (lowestAbove R made)
   first-lowest h s R made m told =
       let i = found-inside count ds ns ts ls bf l a p f h in

@@ -1,17 +1,17 @@
 -- What the inner functions of the queries find. Inner: need not be believed.
 use mathlib.Core.Bool.{Bool, true, false, _&&_, _||_}
-use mathlib.Core.List.{List, [], _∷_}
+use mathlib.Core.List.{List}
 use mathlib.Core.Path.{_≡_}
 use Prim.Native.Nat.{ℕ, suc, min, _-_, _≤_, _<_}
-use lib.Dec.{T, eqb, leb, ltb}
+use lib.Dec.{T, eqb, leb}
 use lib.ListN.{length, getD, take}
 use Rattle.frame.specs.Mark.{MarkId}
 use Rattle.causality.specs.Marks.{has, tally}
 use Rattle.causality.specs.State.{ids, precedes}
 use Rattle.causality.proofs.Reach.{Sound}
 use Rattle.causality.proofs.RowLaws.{under}
-use Rattle.executed.specs.Rows.{Chain}
-use Rattle.rows.specs.View.{Carried, Named, nameAt, rowAt, rowFn, view, width}
+use Rattle.executed.specs.Rows.{Lent}
+use Rattle.rows.specs.View.{Carried, Named, nameAt, namesDown, rowAt, rowFn, view, width}
 use Rattle.queries.specs.declared.first_apart.Searched.{Searched}
 use Rattle.queries.specs.Halving.{halving, mostAsks}
 
@@ -36,14 +36,9 @@ abbrev pub PastOf : List ℕ → List ℕ → List ℕ → ℕ → List ℕ → 
 PastOf ds ns ss p row = (count : ℕ) (bs : ℕ → Carried) → p < count → Named width count ds → Sound (view width count ds ns bs ss)
     → PastTold width ds ns bs ss count p row
 
--- The names of the first p marks, of names newest first.
-abbrev pub upTo : ℕ → List MarkId → List MarkId
-upTo p [] = []
-upTo p (i ∷ is) = elim (ltb (length is) p) [ true ↦ i ∷ is | false ↦ upTo p is ]
-
--- So many marks of desk d are among the first p, by the kept chain of places.
-abbrev pub MadeBefore : List ℕ → List ℕ → List ℕ → ℕ → ℕ → ℕ → Type 0
-MadeBefore ts ls bf d p count = (is : List MarkId) → Chain is ts ls bf → count ≡ tally d (upTo p is)
+-- So many marks of desk d are among the first p.
+abbrev pub MadeBefore : List ℕ → List ℕ → List ℕ → List ℕ → ℕ → ℕ → ℕ → Type 0
+MadeBefore ds ns ts ls d p r = (count : ℕ) (bf : List ℕ) → Lent count ds ns ts ls bf → p ≤ count → r ≡ tally d (namesDown p ds ns)
 
 -- What a row has come to at place q, followed from place `at` over the marks between and no others, at desk d.
 abbrev pub followedTo : List ℕ → List ℕ → (ℕ → Carried) → List ℕ → List ℕ → ℕ → ℕ → ℕ → ℕ

@@ -5,7 +5,6 @@ ghost use lib.ListN.{length};
 ghost use Rattle.causality.specs.Calls.{firstApart};
 ghost use Rattle.causality.specs.Marks.{places};
 ghost use Rattle.causality.specs.Meaning.{idOf, lowestGiven};
-ghost use Rattle.executed.specs.Rows.{HasChain};
 ghost use Rattle.rows.specs.View.{width, Named};
 ghost use Rattle.queries.specs.Halving.{mostAsks};
 ghost use Rattle.queries.specs.Lent.{HasLent, OfEach};
@@ -31,25 +30,30 @@ fn lesser(x: u16, y: u16) -> u16
     if x < y { x } else { y }
 }
 
-// How many marks of a desk stand before place p: down its chain of places from the last. q is the place of mark k, plus 1.
+// How many marks of a desk stand before place p: all, if its last one does; else the number of the first that is met down from there.
 fn made_before<'a>(
+    desks: &'a [u8; PLACES],
+    numbers: &'a [u16; PLACES],
     tally: &'a [u16; WIDTH],
     last: &'a [u16; WIDTH],
-    before: &'a [u16; PLACES],
     desk: u8,
     p: Place,
 ) -> u16
-    requires { ⌜ HasChain (now tally) (now last) (now before) × (1 ≤ desk) × (desk ≤ width) ⌝ }
-    ensures { λ r. ⌜ MadeBefore (now (tally .entry)) (now (last .entry)) (now (before .entry)) desk (p .0) r ⌝ }
+    requires { ⌜ (p .0 ≤ places) × (1 ≤ desk) × (desk ≤ width) ⌝ }
+    ensures { λ r. ⌜ MadeBefore (now (desks .entry)) (now (numbers .entry)) (now (tally .entry)) (now (last .entry)) desk (p .0) r ⌝ }
 {
     let d = desk as usize - 1;
-    let mut k = tally[d];
-    let mut q = wide(last[d]);
-    while p.0 < q {
-        q = wide(before[q - 1]);
-        k -= 1;
+    if wide(last[d]) <= p.0 {
+        return tally[d];
     }
-    k
+    let mut q = p.0;
+    while 0 < q {
+        q -= 1;
+        if desks[q] == desk {
+            return numbers[q];
+        }
+    }
+    0
 }
 
 // Asks whether entries lead from a lent row and the marks before a place to a mark: then the row counts it afterwards. Follows them down until it
@@ -148,7 +152,7 @@ pub fn first_apart<'a>(
     if PLACES <= p {
         return Lowest::Refused(Refusal::NotExecuted);
     }
-    let made = made_before(tally, last, before, desk, Place(p));
+    let made = made_before(desks, numbers, tally, last, desk, Place(p));
     let found = search(desks, numbers, stamps, Place(p), desk, made);
     if found.precede < made {
         return Lowest::Number(Number(found.precede + 1));

@@ -1,60 +1,42 @@
--- `made_before` meets its contract. Invariant: the walk down the desk's chain has passed only marks behind place p.
-use mathlib.Core.List.{List}
-use Prim.Native.Nat.{_≤_}
+-- `made_before` meets its contract. Invariant: down from place p no mark of the desk has been met.
+use Prim.Native.Nat.{_<_, _≤_}
 use borrow.Author.Needs.{needs}
 use native.Mathlib.Omega.{arith}
-use Rattle.frame.specs.Mark.{MarkId}
 use Rattle.causality.specs.Marks.{places}
-use Rattle.executed.specs.Rows.{Chain}
-use Rattle.queries.proofs.MadeBefore.{Walk, walk-end, walk-some, walk-start, walk-step}
+use Rattle.queries.proofs.MadeBefore.{NoneDown, made-all, made-met, made-none, none-more, none-yet}
 use Rattle.queries.proofs.first_apart.made_before.Statement.{statement}
 use Rattle.queries.proofs.first_apart.made_before.Tie as tie
 
 abbrev Inv-loop : tie.InvT-loop
-Inv-loop tally last before desk p d k₀ q₀ k q = (is : List MarkId) → Chain is tally last before → Walk before desk (p .0) is k q
+Inv-loop desks numbers tally last desk d q₀ q = NoneDown desks numbers desk q₀ q
 
 abbrev μ-loop : tie.MeasureT-loop
-μ-loop tally last before desk p d k₀ q₀ k q = k
-
-loop-holds : tie.Need-loop-holds Inv-loop μ-loop
-loop-holds c is h =
-    let s = c .before .before .before in
-    let a = s .args in
-    rw (c .wide .ensures) (walk-start is (a .tally .now) (a .last .now) (a .before .now) h (a .desk) (a .p .0) (s .pre .1) (s .pre .2))
-
--- In the walk a mark of the desk is at a place of the array.
-bound : (c : tie.Then1 Inv-loop μ-loop) → let l = c .before .before .loop in (1 ≤ l .k) × (1 ≤ l .q) × (l .q ≤ places)
-bound c =
-    let l = c .before .before in
-    let s = l .before .before .before .before in
-    let h = s .pre .0 in
-    let t = c .if1 .taken in
-    let w = walk-some _ _ _ _ _ _ (l .loop .inv (h .names) (h .chain)) t in
-    (w .0, omega arith, w .1)
-
-sub-wide : tie.Need-sub-wide Inv-loop μ-loop
-sub-wide c = bound c .1
-
-mul-wide-2 : tie.Need-mul-wide-2 Inv-loop μ-loop
-mul-wide-2 c = let b = bound c in record { fits = omega arith }
-
-element-copy-out-wide-2 : tie.Need-element-copy-out-wide-2 Inv-loop μ-loop
-element-copy-out-wide-2 c = omega (arith, bound c)
-
-sub-k : tie.Need-sub-k Inv-loop μ-loop
-sub-k c = bound (c .before .before) .0
-
-loop-less : tie.Need-loop-less Inv-loop μ-loop
-loop-less c = omega (arith, bound (c .before .before))
-
-loop-again : tie.Need-loop-again Inv-loop μ-loop
-loop-again c is h =
-    let t = c .before .before in
-    let l = t .before .before in
-    rw (c .wide2 .ensures) (walk-step _ _ _ _ _ _ (l .loop .inv is h) (t .if1 .taken))
+μ-loop desks numbers tally last desk d q₀ q = q
 
 returns : tie.Need-returns Inv-loop μ-loop
-returns c is h = walk-end _ _ _ _ _ _ (c .before .before .loop .inv is h) (c .if1 .left)
+returns c =
+    let t = c .before in
+    let h = t .before .before .before .before .pre in
+    made-all _ _ _ _ _ _ (h .1) (h .2) (rw (t .before .before .wide .ensures) at (t .if1 .taken))
+
+loop-holds : tie.Need-loop-holds Inv-loop μ-loop
+loop-holds c = none-yet _ _ _ _
+
+-- In the loop there is a place before that of the array's end.
+bound : (c : tie.In-loop Inv-loop μ-loop) → (0 < c .before .loop .q) × (c .before .loop .q ≤ places)
+bound c = let l = c .before in let h = l .before .before .before .before .before .pre .0 in let w = l .loop .inv .0 in (c .loop-test .taken, omega arith)
+
+returns-2 : tie.Need-returns-2 Inv-loop μ-loop
+returns-2 c =
+    let t = c .before in
+    let i = t .before .before in
+    made-met _ _ _ _ _ _ _ (i .before .loop .inv) (i .loop-test .taken) (t .if2 .taken)
+
+loop-again : tie.Need-loop-again Inv-loop μ-loop
+loop-again c = let i = c .before .before in none-more _ _ _ _ _ (i .before .loop .inv) (i .loop-test .taken) (c .if2 .left)
+
+returns-3 : tie.Need-returns-3 Inv-loop μ-loop
+returns-3 c = made-none _ _ _ _ _ _ _ (c .before .loop .inv) (c .loop-test .left)
 
 pub made-before-spec : {M : Type 1} → statement M
 made-before-spec =
@@ -65,15 +47,16 @@ made-before-spec =
     (λ c. search needs)
     (λ c. search needs)
     (λ c. search needs)
-    (λ c. search needs)
-    (λ c. search needs)
     (λ c κs. search needs)
+    (λ c. search needs)
+    (λ c. search needs)
+    returns
     loop-holds
-    sub-wide
-    mul-wide-2
-    element-copy-out-wide-2
-    (λ c κs. search needs)
-    sub-k
-    loop-less
+    (λ c. search needs)
+    (λ c. omega (arith, bound c))
+    (λ c. let b = bound (c .before .before) in record { fits = omega arith })
+    (λ c. omega (arith, bound (c .before .before)))
+    returns-2
+    (λ c. omega (arith, bound (c .before .before)))
     loop-again
-    returns)
+    returns-3)
