@@ -26,12 +26,12 @@ module _ (d : ℕ) (i : MarkId) (is : List MarkId) where
   other : T (not (eqb d (i .desk))) → (lastIn d (i ∷ is) ≡ lastIn d is) × (tally d (i ∷ is) ≡ tally d is)
   other t = (rw (nT→eq (eqb d (i .desk)) t, lastIn) refl, rw (nT→eq (eqb d (i .desk)) t, tally) refl)
 
-tally-few : (d : ℕ) (is : List MarkId) → tally d is ≤ length is
+pub tally-few : (d : ℕ) (is : List MarkId) → tally d is ≤ length is
 tally-few d [] = omega arith
 tally-few d (i ∷ is) = elim (split (eqb d (i .desk))) [ inl t ↦ omega (arith, own d i is t .1, tally-few d is) | inr t ↦ omega (arith, other d i is t .1, tally-few d is) ]
 
 module _ (ds ns : List ℕ) where
-  names-length : (k : ℕ) → length (namesDown k ds ns) ≡ k
+  pub names-length : (k : ℕ) → length (namesDown k ds ns) ≡ k
   names-length zero = refl
   names-length (suc k) = ap suc (names-length k)
 
@@ -59,6 +59,16 @@ module _ (ds ns : List ℕ) where
       ]
     ]
 
+    -- The mark before a place is of the desk: one fewer stands before it. Or it is another's.
+    own-more : (q : ℕ) → 0 < q → getD ds (q - 1) 0 ≡ d → tally d (namesDown q ds ns) ≡ suc (tally d (namesDown (q - 1) ds ns))
+    own-more q z e = ap (tally d) (names-last q z) ∙ own d (nameAt ds ns (q - 1)) (namesDown (q - 1) ds ns) (rw e (eqb-refl d)) .1
+
+    pub own-less : (q : ℕ) → 0 < q → getD ds (q - 1) 0 ≡ d → (made : ℕ) → made ≡ tally d (namesDown q ds ns) → made - 1 ≡ tally d (namesDown (q - 1) ds ns)
+    own-less q z e made m = omega (arith, m ∙ own-more q z e)
+
+    pub other-same : (q : ℕ) → 0 < q → (getD ds (q - 1) 0 ≡ d → ⊥) → tally d (namesDown q ds ns) ≡ tally d (namesDown (q - 1) ds ns)
+    other-same q z f = ap (tally d) (names-last q z) ∙ other d (nameAt ds ns (q - 1)) (namesDown (q - 1) ds ns) (not-T (eqb d (getD ds (q - 1) 0)) (λ t. f (sym (eqb→eq d (getD ds (q - 1) 0) t)))) .1
+
     -- Down from place p no mark of the desk has been met as far as place q.
     abbrev pub NoneDown : ℕ → ℕ → Type 0
     NoneDown p q = (q ≤ p) × (tally d (namesDown p ds ns) ≡ tally d (namesDown q ds ns))
@@ -68,17 +78,13 @@ module _ (ds ns : List ℕ) where
 
     module _ (p q : ℕ) (w : NoneDown p q) (z : 0 < q) where
       pub none-more : (getD ds (q - 1) 0 ≡ d → ⊥) → NoneDown p (q - 1)
-      none-more f =
-          let l = w .0 in
-          let no = not-T (eqb d (getD ds (q - 1) 0)) (λ t. f (sym (eqb→eq d (getD ds (q - 1) 0) t))) in
-          (omega arith, w .1 ∙ ap (tally d) (names-last q z) ∙ other d (nameAt ds ns (q - 1)) (namesDown (q - 1) ds ns) no .1)
+      none-more f = let l = w .0 in (omega arith, w .1 ∙ other-same q z f)
 
       -- One is met: its number counts them.
       pub met : getD ds (q - 1) 0 ≡ d → Counted (namesDown p ds ns) → getD ns (q - 1) 0 ≡ tally d (namesDown p ds ns)
       met e c =
           let k = subst Counted (names-last q z) (counted-less p q (w .0) c) in
-          k .0 ∙ ap (λ (x : ℕ). suc (tally x (namesDown (q - 1) ds ns))) e
-          ∙ sym (w .1 ∙ ap (tally d) (names-last q z) ∙ own d (nameAt ds ns (q - 1)) (namesDown (q - 1) ds ns) (rw e (eqb-refl d)) .1)
+          k .0 ∙ ap (λ (x : ℕ). suc (tally x (namesDown (q - 1) ds ns))) e ∙ sym (w .1 ∙ own-more q z e)
 
 -- LENT ARRAYS
 
@@ -97,8 +103,5 @@ module _ (ds ns ts ls : List ℕ) (d p : ℕ) where
   made-met q w z e count bf l b = met ds ns d p q w z e (counted-less ds ns count p b (l .chain .counted))
 
 module _ (count p d made : ℕ) (ds ns ts ls bf : List ℕ) (l : Lent count ds ns ts ls bf) (m : MadeBefore ds ns ts ls d p made) (h : p ≤ count) where
-  pub made-few : made ≤ p
-  made-few = omega (arith, m count bf l h, tally-few d (namesDown p ds ns), names-length ds ns p)
-
   pub made-first : (bs : ℕ → Carried) (ss : List ℕ) → made ≡ tally d (ids (view width p ds ns bs ss))
   made-first bs ss = m count bf l h ∙ ap (tally d) (sym (ids-names width ds ns bs ss p))

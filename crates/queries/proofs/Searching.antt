@@ -7,15 +7,16 @@ use mathlib.Core.Bool.{Bool, false, true}
 use mathlib.Core.List.{List}
 use mathlib.Core.Path.{_∙_, _≡_, ap, refl, sym}
 use native.Mathlib.Omega.{arith}
-use Rattle.causality.specs.Marks.{places}
+use Rattle.causality.specs.Marks.{places, tally}
 use Rattle.causality.proofs.Reach.{Sound}
 use Rattle.causality.proofs.RowLaws.{under-up}
-use Rattle.rows.specs.View.{Carried, Named, rowAt, rowFn, view, width}
+use Rattle.rows.specs.View.{Carried, Named, namesDown, rowAt, rowFn, view, width}
 use Rattle.rows.proofs.Arrays.{sound-below}
 use Rattle.rows.proofs.RowSteps.{named-less}
 use Rattle.queries.specs.Halving.{halving, middle, mostAsks}
 use Rattle.queries.specs.Steps.{AskedOf, SearchedOf, numberPrecedes}
 use Rattle.queries.proofs.Asking.{asked-reaches, asked-told}
+use Rattle.queries.proofs.MadeBefore.{names-length, tally-few}
 use Rattle.queries.proofs.PastRow.{reached-counts}
 use Rattle.queries.proofs.Reaching.{reached}
 
@@ -57,8 +58,8 @@ pub record Halved (ds ns ss start : List ℕ) (p d t : ℕ) (row : List ℕ) (at
   pub asked : AsMany ds ns ss start p d t asks turns low high
 
 module _ (ds ns ss start : List ℕ) (p d t : ℕ) where
-  pub halved-start : length start ≡ width → t ≤ places → Halved ds ns ss start p d t start p (min (rowFn start d) t) t 0
-  halved-start l few = record {
+  pub halved-start : length start ≡ width → p < places → t ≡ tally d (namesDown p ds ns) → Halved ds ns ss start p d t start p (min (rowFn start d) t) t 0
+  halved-start l h e = record {
     long = l;
     less = omega arith;
     reaches = λ bs. refl;
@@ -67,7 +68,7 @@ module _ (ds ns ss start : List ℕ) (p d t : ℕ) where
     apart = λ bs s. omega arith;
     turns = mostAsks;
     all-turns = refl;
-    enough = omega arith;
+    enough = omega (arith, tally-few d (namesDown p ds ns), names-length ds ns p);
     asked = λ bs passes s f. omega arith;
   }
 
@@ -94,16 +95,16 @@ module _ (ds ns ss start : List ℕ) (p d t : ℕ) where
       fewer-asks = let e = turn .all-turns in omega arith
 
       -- The middle number has been asked about, which is one ask more.
-      module _ (f : Named width p ds) (lo : 1 ≤ d) (hi : d ≤ width) (more : ℕ) (one : more ≡ suc asks) (after : List ℕ) (r : ℕ)
-          (a : AskedOf ds ns ss row at (record { desk = d; number = middle low high }) after r) where
+      module _ (f : Named width p ds) (lo : 1 ≤ d) (hi : d ≤ width) (more : ℕ) (one : more ≡ suc asks) (after : List ℕ) (made r : ℕ)
+          (a : AskedOf ds ns ss row at (record { desk = d; number = middle low high }) after made r) where
         here : Named width at ds
         here = named-less width p ds at f (w .less)
 
         reached-on : (bs : ℕ → Carried) → reached width ds ns bs ss r after d ≡ reached width ds ns bs ss p start d
-        reached-on bs = asked-reaches ds ns ss row at (record { desk = d; number = middle low high }) here lo hi after r a bs ∙ w .reaches bs
+        reached-on bs = asked-reaches ds ns ss row at (record { desk = d; number = middle low high }) here lo hi after made r a bs ∙ w .reaches bs
 
         told : (bs : ℕ → Carried) → Sound (view width p ds ns bs ss) → leb (middle low high) (rowFn after d) ≡ leb (middle low high) (reached width ds ns bs ss p start d)
-        told bs s = asked-told ds ns ss row at (record { desk = d; number = middle low high }) here lo hi after r a bs (sound-below width p ds ns bs ss s at (w .less)) ∙ ap (leb (middle low high)) (w .reaches bs)
+        told bs s = asked-told ds ns ss row at (record { desk = d; number = middle low high }) here lo hi after made r a bs (sound-below width p ds ns bs ss s at (w .less)) ∙ ap (leb (middle low high)) (w .reaches bs)
 
         -- What stays, where the numbers between x and y are left, at most half of those before.
         halved-on : (x y : ℕ) → (x ≤ y) × (y ≤ t) → y - x ≤ (high - low) / 2 → ((bs : ℕ → Carried) → x ≤ reached width ds ns bs ss p start d)

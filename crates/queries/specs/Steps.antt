@@ -1,9 +1,9 @@
 -- What the inner functions of the queries find. Inner: need not be believed.
-use mathlib.Core.Bool.{Bool, true, false, _&&_, _||_}
+use mathlib.Core.Bool.{Bool, true, false, _||_}
 use mathlib.Core.List.{List}
 use mathlib.Core.Path.{_≡_}
 use Prim.Native.Nat.{ℕ, suc, min, _-_, _≤_, _<_}
-use lib.Dec.{T, eqb, leb}
+use lib.Dec.{T, leb, ltb}
 use lib.ListN.{length, getD, take}
 use Rattle.frame.specs.Mark.{MarkId}
 use Rattle.causality.specs.Marks.{has, tally}
@@ -44,16 +44,16 @@ MadeBefore ds ns ts ls d p r = (count : ℕ) (bf : List ℕ) → Lent count ds n
 abbrev pub followedTo : List ℕ → List ℕ → (ℕ → Carried) → List ℕ → List ℕ → ℕ → ℕ → ℕ → ℕ
 followedTo ds ns bs ss row at q d = under (take (at - q) (view width at ds ns bs ss)) (λ d. 0) (rowFn row) d
 
--- An ask of mark i ends at place q: the row, of which x is the count at the mark's desk, counts the mark; or no place is left; or the next mark down is
--- the mark itself or an earlier one of its desk.
+-- An ask of mark i ends at place q: the row, of which x is the count at the mark's desk, counts the mark; or it is not among the marks before.
 abbrev pub endsAt : List ℕ → List ℕ → MarkId → ℕ → ℕ → Bool
-endsAt ds ns i q x = leb (i .number) x || (eqb q 0 || (eqb (getD ds (q - 1) 0) (i .desk) && leb (getD ns (q - 1) 0) (i .number)))
+endsAt ds ns i q x = leb (i .number) x || ltb (tally (i .desk) (namesDown q ds ns)) (i .number)
 
--- An ask of mark i: a row is followed from a place down to r, where it ends and not before.
-pub record AskedOf (ds ns ss row : List ℕ) (at : ℕ) (i : MarkId) (after : List ℕ) (r : ℕ) : Type 0 where
+-- An ask of mark i: a row is followed from a place down to r, where it ends and not before. So many marks of the desk stand before r.
+pub record AskedOf (ds ns ss row : List ℕ) (at : ℕ) (i : MarkId) (after : List ℕ) (made r : ℕ) : Type 0 where
   pub less : r ≤ at
   pub long : length after ≡ width
   pub counts : (bs : ℕ → Carried) (j : ℕ) → j < width → getD after j 0 ≡ followedTo ds ns bs ss row at r (suc j)
+  pub standing : made ≡ tally (i .desk) (namesDown r ds ns)
   pub ends : endsAt ds ns i r (rowFn after (i .desk)) ≡ true
   pub first : (bs : ℕ → Carried) (q : ℕ) → r < q → q ≤ at → endsAt ds ns i q (followedTo ds ns bs ss row at q (i .desk)) ≡ false
 

@@ -3,9 +3,9 @@ ghost use mathlib.Core.Path.{_≡_};
 ghost use Prim.Native.Nat.{min, _≤_, _<_};
 ghost use lib.ListN.{length};
 ghost use Rattle.causality.specs.Calls.{firstApart};
-ghost use Rattle.causality.specs.Marks.{places};
+ghost use Rattle.causality.specs.Marks.{places, tally};
 ghost use Rattle.causality.specs.Meaning.{idOf, lowestGiven};
-ghost use Rattle.rows.specs.View.{width, Named};
+ghost use Rattle.rows.specs.View.{width, Named, namesDown};
 ghost use Rattle.queries.specs.Halving.{mostAsks};
 ghost use Rattle.queries.specs.Lent.{HasLent, OfEach};
 ghost use Rattle.queries.specs.Steps.{AskedOf, MadeBefore, SearchedOf};
@@ -57,37 +57,37 @@ fn made_before<'a>(
 }
 
 // Asks whether entries lead from a lent row and the marks before a place to a mark: then the row counts it afterwards. Follows them down until it
-// does, or a mark of the same desk is met that is no later one: no mark there or before names it. Gives the place where it stopped, from which the
-// next ask goes on. The place of the examined mark falls at each call.
+// does, or the mark's own place is passed: no mark there or before names it. `made` is how many marks of its desk stand before the place, and falls
+// with it. Gives the place where it ended, from which the next ask goes on. The place of the examined mark falls at each call.
 fn ask<'a>(
     desks: &'a [u8; PLACES],
     numbers: &'a [u16; PLACES],
     stamps: &'a [u16; PLACES * WIDTH],
     row: &mut [u16; WIDTH],
+    made: &mut u16,
     at: Place,
     i: MarkId,
 ) -> usize
-    requires { ⌜ (at .0 ≤ places) × Named width (at .0) (now desks) × (length (now row) ≡ width) × (1 ≤ i .desk) × (i .desk ≤ width) ⌝ }
+    requires { ⌜ (at .0 ≤ places) × Named width (at .0) (now desks) × (length (now row) ≡ width) × (1 ≤ i .desk) × (i .desk ≤ width)
+        × (now made ≡ tally (i .desk) (namesDown (at .0) (now desks) (now numbers))) ⌝ }
     ensures { λ r. ⌜ AskedOf (now (desks .entry)) (now (numbers .entry)) (now (stamps .entry)) (now (row .entry)) (at .0)
-        (idOf i) (now (row .exit)) r ⌝ }
+        (idOf i) (now (row .exit)) (now (made .exit)) r ⌝ }
 {
     let n = i.number;
     if n.0 <= row[i.desk as usize - 1] {
         return at.0;
     }
-    if at.0 == 0 {
+    if *made < n.0 {
         return at.0;
     }
     let p = at.0 - 1;
     if desks[p] == i.desk {
-        if numbers[p] <= n.0 {
-            return at.0;
-        }
+        *made -= 1;
     }
     if numbers[p] <= row[desks[p] as usize - 1] {
         predecessors::join(stamps, p, row);
     }
-    ask(desks, numbers, stamps, row, Place(p), i)
+    ask(desks, numbers, stamps, row, made, Place(p), i)
 }
 
 // What the search finds: how many of a desk's marks precede a mark, and of how many that was asked.
@@ -96,7 +96,7 @@ struct Searched {
     asks: u16,
 }
 
-// How many of the first t marks of a desk, which stand before place p, precede the mark there: a first run of numbers, whose end is found by halving.
+// How many of the t marks of a desk that stand before place p precede the mark there: a first run of numbers, whose end is found by halving.
 // Marks up to `low` precede, at first those that the stamp's own entry tells of; those above `high` are apart.
 fn search<'a>(
     desks: &'a [u8; PLACES],
@@ -106,11 +106,13 @@ fn search<'a>(
     desk: u8,
     t: u16,
 ) -> Searched
-    requires { ⌜ (p .0 < places) × Named width (p .0) (now desks) × (1 ≤ desk) × (desk ≤ width) × (t ≤ places) ⌝ }
+    requires { ⌜ (p .0 < places) × Named width (p .0) (now desks) × (1 ≤ desk) × (desk ≤ width)
+        × (t ≡ tally desk (namesDown (p .0) (now desks) (now numbers))) ⌝ }
     ensures { λ r. ⌜ SearchedOf (now (desks .entry)) (now (numbers .entry)) (now (stamps .entry)) (p .0) desk t r × (r .asks ≤ mostAsks) ⌝ }
 {
     let d = desk as usize - 1;
     let mut row = rows::row_at(stamps, p.0);
+    let mut made = t;
     let mut at = p.0;
     let mut low = lesser(row[d], t);
     let mut high = t;
@@ -121,7 +123,7 @@ fn search<'a>(
             desk,
             number: Number(k),
         };
-        at = ask(desks, numbers, stamps, &mut row, Place(at), i);
+        at = ask(desks, numbers, stamps, &mut row, &mut made, Place(at), i);
         if k <= row[d] {
             low = k;
         } else {

@@ -21,7 +21,6 @@ use Rattle.rows.specs.View.{Carried, Named, view, width}
 use Rattle.rows.proofs.RowSteps.{named-less}
 use Rattle.queries.specs.Lent.{lent}
 use Rattle.queries.proofs.FirstApart.{first-lowest, first-no-desk, first-none}
-use Rattle.queries.proofs.MadeBefore.{made-few}
 use Rattle.queries.proofs.first_apart.first_apart.Statement.{statement}
 use Rattle.queries.proofs.first_apart.first_apart.Tie as tie
 
@@ -59,8 +58,7 @@ search-requires c κs =
     let r = in-range (f .before) in
     let z = e .if2 .left in
     let i = found-inside _ _ _ _ _ _ m _ _ (f .find .ensures) z in
-    let t = made-few (s .pre .count) _ _ _ _ _ _ _ _ m (c .made-before .ensures) (omega arith) in
-    (z, named e, r .0, r .1, omega arith)
+    (z, named e, r .0, r .1, c .made-before .ensures (s .pre .count) _ m (omega arith))
 
 -- What is given once the marks before the place are counted, and those of them that precede.
 given : (c : tie.After-search) → let m = c .before in
