@@ -37,14 +37,14 @@ ask-returns t c =
     let s = c .before .before .before .before .before in
     let a = s .args in
     let h = s .pre .1 in
-    asked-counted (a .desks .now) (a .numbers .now) (a .stamps .now) (a .row .now) (a .at .0) (idOf (a .i)) (h .2) (a .made .now) (h .5) (c .if1 .taken)
+    asked-counted (a .desks .now) (a .numbers .now) (a .stamps .now) (a .row .now) (a .at .0) (idOf (a .i)) (h .2) (a .made .now) (h .5) (omega (arith, c .if1 .taken))
 
 ask-returns-2 : (t : ℕ) → ask-lts.Need-returns-2 (known t) (ask-at t) ask.Post
 ask-returns-2 t c =
     let s = c .before .before .before .before .before .before .before .before in
     let a = s .args in
     let h = s .pre .1 in
-    asked-passed (a .desks .now) (a .numbers .now) (a .stamps .now) (a .row .now) (a .at .0) (idOf (a .i)) (h .2) (a .made .now) (h .5) (c .if2 .taken)
+    asked-passed (a .desks .now) (a .numbers .now) (a .stamps .now) (a .row .now) (a .at .0) (idOf (a .i)) (h .2) (a .made .now) (h .5) (omega (arith, c .if2 .taken))
 
 -- There is a place before, and the mark there is of a desk from 1 to the width.
 last : (t : ℕ) (c : ask-lts.Else2 (known t) (ask-at t) ask.Post)
@@ -54,7 +54,7 @@ last t c =
     let s = e .before .before .before .before .before in
     let a = s .args in
     let h = s .pre .1 in
-    let z = some-place (a .desks .now) (a .numbers .now) (a .stamps .now) (a .row .now) (a .at .0) (idOf (a .i)) (h .2) (a .made .now) (h .5) (e .if1 .left) (c .if2 .left) in
+    let z = some-place (a .desks .now) (a .numbers .now) (a .stamps .now) (a .row .now) (a .at .0) (idOf (a .i)) (h .2) (a .made .now) (h .5) (omega (arith, e .if1 .left)) (omega (arith, c .if2 .left)) in
     let x = named-at width (a .at .0) (a .desks .now) (a .at .0 - 1) (h .1) (omega arith) in
     (z, x .0, x .1)
 
@@ -81,7 +81,7 @@ left t c =
     let a = s .args in
     let z = last t e .0 in
     let m = s .pre .1 .5 in
-    ⊎-elim (λ w. w .1 ∙ own-less (a .desks .now) (a .numbers .now) (a .i .desk) (a .at .0) z (w .0 .taken) (a .made .now) m) (λ w. w .1 ∙ m ∙ other-same (a .desks .now) (a .numbers .now) (a .i .desk) (a .at .0) z (w .0 .left)) (c .if3 .came)
+    ⊎-elim (λ w. w .1 ∙ own-less (a .desks .now) (a .numbers .now) (a .i .desk) (a .at .0) z (omega (arith, w .0 .taken)) (a .made .now) m) (λ w. w .1 ∙ m ∙ other-same (a .desks .now) (a .numbers .now) (a .i .desk) (a .at .0) z (w .0 .left)) (c .if3 .came)
 
 -- The row after the examined mark: as long, and one turn on.
 row-long : (t : ℕ) (c : ask-lts.Joined4 (known t) (ask-at t) ask.Post) → length (c .if4 .row) ≡ width
@@ -115,7 +115,7 @@ ask-returns-3 t c =
     let a = s .args in
     let h = s .pre .1 in
     asked-on (a .desks .now) (a .numbers .now) (a .stamps .now) (a .row .now) (a .at .0) (idOf (a .i)) (h .1) (h .3) (h .4) (j .if4 .row) (c .ask .last .1 .1 .1 .0) (c .ask .last .1 .1 .1 .1 .0) (c .ask .result) (last t e .0) (row-turned t j)
-    (not-ended (a .desks .now) (a .numbers .now) (a .stamps .now) (a .row .now) (a .at .0) (idOf (a .i)) (h .2) (a .made .now) (h .5) (e .before .before .before .if1 .left) (e .if2 .left)) (c .ask .ensures)
+    (not-ended (a .desks .now) (a .numbers .now) (a .stamps .now) (a .row .now) (a .at .0) (idOf (a .i)) (h .2) (a .made .now) (h .5) (omega (arith, e .before .before .before .if1 .left)) (omega (arith, e .if2 .left))) (c .ask .ensures)
 
 pub +ask-spec : {M : Type 1} → statement M
 +ask-spec = close μ-ask λ t. ask-lts.spec (known t)
