@@ -23,7 +23,7 @@ use Rattle.numbers.specs.declared.ApartAnswer.{ApartAnswer}
 use Rattle.abi.specs.Exports.{ApartExport}
 
 -- A shared reference as an `ensures` has it.
-abbrev still : RefT (List ℕ) → Lending (List ℕ)
+abbrev pub still : RefT (List ℕ) → Lending (List ℕ)
 still x = record { entry = x; exit = x }
 
 module _ (count : ℕ) (ds ns ss ts ls bf : RefT (List ℕ)) (m : MarkId) where

@@ -12,6 +12,7 @@ use Rattle.frame.specs.declared.Reading.{Reading}
 use Rattle.frame.specs.declared.Writing.{Writing}
 use Rattle.causality.specs.declared.Counted.{Counted}
 use Rattle.causality.specs.declared.Created.{Created}
+use Rattle.causality.specs.declared.Evidence.{Evidence}
 use Rattle.causality.specs.declared.Lowest.{Lowest}
 use Rattle.causality.specs.declared.MarkId.{MarkId}
 use Rattle.causality.specs.declared.Marked.{Marked}
@@ -20,9 +21,10 @@ use Rattle.causality.specs.declared.Related.{Related}
 use Rattle.executed.specs.Arrays.{Arrays, Lending}
 use Rattle.waiting.specs.declared.Waiting.{Waiting}
 use Rattle.desk.specs.Lent.{EachDesk, Marking, Receiving}
-use Rattle.desk.specs.Promises.{NewPromise, RelatePromise, ApartPromise, FirstApartPromise, FrameAgainPromise, ToSecondPromise, ToFirstPromise}
-use Rattle.numbers.specs.Numbers.{createdNumber, markedNumbers, receivedNumbers, relatedNumbers, countedNumbers, lowestNumbers, writtenNumbers, readNumbers}
+use Rattle.desk.specs.Promises.{NewPromise, RelatePromise, EvidencePromise, ApartPromise, FirstApartPromise, FrameAgainPromise, ToSecondPromise, ToFirstPromise}
+use Rattle.numbers.specs.Numbers.{createdNumber, markedNumbers, receivedNumbers, relatedNumbers, evidenceNumbers, countedNumbers, lowestNumbers, writtenNumbers, readNumbers}
 use Rattle.numbers.specs.declared.ApartAnswer.{ApartAnswer}
+use Rattle.numbers.specs.declared.EvidenceAnswer.{EvidenceAnswer}
 use Rattle.numbers.specs.declared.FirstAnswer.{FirstAnswer}
 use Rattle.numbers.specs.declared.MarkAnswer.{MarkAnswer}
 use Rattle.abi.specs.declared.NewAnswer.{NewAnswer}
@@ -55,6 +57,11 @@ pub record RelateExport {A : Type 0} (lent : A → Arrays) (a b : MarkId) (r : R
   pub answer : Related
   pub numbers : relatedNumbers answer ≡ (r .refusal, r .relation)
   pub promise : EachDesk lent (λ d. RelatePromise d a b (record { desk = d; answer = answer }))
+
+pub record EvidenceExport {A : Type 0} (lent : A → Arrays) (a b : MarkId) (out after : List MarkId) (r : EvidenceAnswer) : Type 0 where
+  pub answer : Evidence
+  pub numbers : evidenceNumbers answer ≡ (r .refusal, r .relation, r .length, r .first, r .second)
+  pub promise : EachDesk lent (λ d. EvidencePromise d a b out after (record { desk = d; answer = answer }))
 
 pub record ApartExport {A : Type 0} (lent : A → Arrays) (a : MarkId) (out after : List MarkId) (r : ApartAnswer) : Type 0 where
   pub answer : Counted

@@ -1,17 +1,20 @@
-// Relate, Apart, First apart, Frame again and the converter from 1 to 2 over a desk's lent arrays.
+// Relate, Evidence, Apart, First apart, Frame again and the converter from 1 to 2 over a desk's lent arrays.
 ghost use mathlib.Core.Path.{_≡_};
 ghost use Rattle.causality.specs.Meaning.{idOf};
 ghost use Rattle.concurrent.specs.Found.{ApartFound};
-ghost use Rattle.queries.specs.Lent.{OfCount};
+ghost use Rattle.evidence.specs.Found.{EvidenceFound};
+ghost use Rattle.queries.specs.Lent.{HasLent, OfCount, OfEach};
 ghost use Rattle.executed.specs.Rows.{Lent};
 ghost use Rattle.in_place.specs.Lent.{SomeDesk, againLent};
 ghost use Rattle.desk.specs.Lent.{queryLent, apartLent};
-ghost use Rattle.abi.specs.Exports.{markId, RelateExport, ApartExport, FirstExport, AgainExport, ToSecondExport};
-ghost use Rattle.numbers.specs.Numbers.{countedNumbers};
+ghost use Rattle.abi.specs.Exports.{markId, RelateExport, EvidenceExport, ApartExport, FirstExport, AgainExport, ToSecondExport};
+ghost use Rattle.numbers.specs.Numbers.{countedNumbers, evidenceNumbers};
 use causality::MarkId;
 use concurrent::ApartList;
+use evidence::EvidenceList;
 use frame::Number;
 use numbers::ApartAnswer;
+use numbers::EvidenceAnswer;
 use numbers::FirstAnswer;
 use numbers::RelateAnswer;
 use numbers::WriteAnswer;
@@ -57,6 +60,82 @@ pub extern "C" fn kaungimewe_relate_lent<'a>(
         first,
         second,
     ))
+}
+
+// The evidence, where so many pairs are lent.
+fn find_evidence<'a>(
+    desks: &'a [u8; PLACES],
+    numbers: &'a [u16; PLACES],
+    stamps: &'a [u16; PLACES * WIDTH],
+    tally: &'a [u16; WIDTH],
+    last: &'a [u16; WIDTH],
+    before: &'a [u16; PLACES],
+    a: u8,
+    n: u16,
+    b: u8,
+    m: u16,
+    lent: usize,
+) -> EvidenceList
+    requires { ⌜ HasLent (now desks) (now numbers) (now tally) (now last) (now before) ⌝ }
+    ensures { λ r. ⌜ OfEach desks numbers stamps tally last before (λ st. EvidenceFound st (idOf (markId a n)) (idOf (markId b m)) lent r) ⌝ }
+{
+    let one = named(a, n);
+    let other = named(b, m);
+    evidence::evidence_list(
+        desks,
+        numbers,
+        stamps,
+        tally,
+        last,
+        before,
+        one,
+        other,
+        lent,
+    )
+}
+
+fn evidence_of(found: EvidenceList) -> EvidenceAnswer
+    ensures { λ r. ⌜ evidenceNumbers (found .answer) ≡ (r .refusal, r .relation, r .length, r .first, r .second) ⌝ }
+{
+    let evidence = found.answer;
+    numbers::evidenced(evidence)
+}
+
+// By hand, since a slice of structs is lent; a refusal and Concurrent have an empty list.
+#[no_mangle]
+pub extern "C" fn kaungimewe_evidence_lent<'a>(
+    desks: &'a [u8; PLACES],
+    numbers: &'a [u16; PLACES],
+    stamps: &'a [u16; PLACES * WIDTH],
+    tally: &'a [u16; WIDTH],
+    last: &'a [u16; WIDTH],
+    before: &'a [u16; PLACES],
+    a: u8,
+    n: u16,
+    b: u8,
+    m: u16,
+    out: &mut [MarkId],
+) -> EvidenceAnswer
+    requires { ⌜ SomeDesk (queryLent desks numbers stamps tally last before) ⌝ }
+    ensures { λ r. ⌜ EvidenceExport
+        (queryLent (desks .entry) (numbers .entry) (stamps .entry) (tally .entry) (last .entry) (before .entry)) (markId a n) (markId b m)
+        (now (out .entry)) (now (out .exit)) r ⌝ }
+{
+    let found = find_evidence(
+        desks,
+        numbers,
+        stamps,
+        tally,
+        last,
+        before,
+        a,
+        n,
+        b,
+        m,
+        out.len(),
+    );
+    pairs::fill(out, found.list);
+    evidence_of(found)
 }
 
 // The marks apart, where there is room for so many.

@@ -11,9 +11,10 @@ use Rattle.frame.specs.declared.Past.the-variants.{Said, Unsaid}
 use Rattle.frame.specs.Answer.{Answer, gives, refused}
 use Rattle.frame.specs.Frame.{at2, at4, bytes2, bytes4, countBad, entriesBad, entriesOf, entryBad, fieldsBad, fieldsOf, frameOf, headOf, lengthBad, outputShort, partBad, pastIn, readEntries, readFields, versionBad, writeSize}
 use Rattle.frame.specs.Mark.{MarkId, boxRule, desks, isDesk, isNumber}
-use Rattle.causality.specs.Answers.{After, Before, Concurrent, Executed, Known, Numbered, Relation, Reply, Same, Waiting}
+use Rattle.causality.specs.Answers.{After, Before, Concurrent, Evidence, Executed, Known, Numbered, Relation, Reply, Same, Waiting}
 use Rattle.causality.specs.Calls.{apartOf, arrive, executing, fieldsOfMark, firstApart, frameAgainBytes, frameAgainSize, frameOfMark, full, mark, markAnswer, markIn, new, newMark, receive, receiveMark, refuse, relate, sameFields, sizeOfMark, toFirstBytes, toFirstMark, toFirstSize, toSecondBytes, toSecondMark, toSecondSize, unmade}
-use Rattle.causality.specs.Examples.{clicks, counted, pinned, short, starred, tails}
+use Rattle.causality.specs.Evidence.{chain, evidence, evidenceChain, evidencePairs, inPast}
+use Rattle.causality.specs.Examples.{chains, clicks, counted, pinned, short, starred, tails}
 use Rattle.causality.specs.Marks.{same}
 use Rattle.causality.specs.State.{Mark, State, concurrent, falseEntries, falseStamp, heads, ids, isHead, lacksPrevious, missing, missingEntries, previous, ready, reckoning}
 
@@ -226,19 +227,44 @@ abbrev converted : List (List ℕ)
 converted = (whole (Said 3) ++ replicate 6 7) ∷ (whole Unsaid ++ replicate 8 7) ∷ []
 
 -- First apart of 2.1 at desk 1, at desk 3 with so many marks of desk 1 and then 2.1 with these entries.
-abbrev chain : ℕ → List (List ℕ)
-chain n = take n (f11 ∷ f1 2 ∷ f1 3 ∷ f1 4 ∷ f1 5 ∷ [])
+abbrev ofDesk1 : ℕ → List (List ℕ)
+ofDesk1 n = take n (f11 ∷ f1 2 ∷ f1 3 ∷ f1 4 ∷ f1 5 ∷ [])
 
 abbrev tail : ℕ → List MarkId → ℕ
-tail n es = value (firstApart desks (receives (fresh 3) (chain n ++ (frame 2 1 es ∷ []))) (id 2 1) 1)
+tail n es = value (firstApart desks (receives (fresh 3) (ofDesk1 n ++ (frame 2 1 es ∷ []))) (id 2 1) 1)
 
 abbrev foundTails : List (List ℕ)
 foundTails =
     (value (firstApart desks desk3 (id 4 1) 1) ∷ value (firstApart desks desk3 (id 4 1) 2) ∷ value (firstApart desks desk3 (id 4 1) 3) ∷ value (firstApart desks desk3 (id 4 1) 4) ∷ [])
     ∷ (tail 5 (id 1 3 ∷ []) ∷ [])
-    ∷ (value (firstApart desks (receives (marks (receives (fresh 2) (chain 3))) (f1 4 ∷ f1 5 ∷ [])) (id 2 1) 1) ∷ [])
+    ∷ (value (firstApart desks (receives (marks (receives (fresh 2) (ofDesk1 3))) (f1 4 ∷ f1 5 ∷ [])) (id 2 1) 1) ∷ [])
     ∷ (tail 3 (id 1 3 ∷ []) ∷ tail 3 [] ∷ [])
     ∷ (tail 1 (id 1 1 ∷ []) ∷ tail 1 [] ∷ tail 0 [] ∷ [])
+    ∷ []
+
+abbrev behind : Answer Evidence → List ℕ
+behind (gives (Same n)) = 0 ∷ n ∷ []
+behind (gives (Before n)) = 1 ∷ n ∷ []
+behind (gives (After n)) = 2 ∷ n ∷ []
+behind (gives (Concurrent x y)) = 3 ∷ x ∷ y ∷ []
+behind (refused c) = c ∷ []
+
+-- The answer, and so many lent pairs after the call.
+abbrev shown : State → MarkId → MarkId → ℕ → List ℕ
+shown st a b lent = behind (evidence st a b lent) ++ names (evidencePairs st a b (replicate lent (id 7 7)))
+
+-- Two chains lead from 5.1 to 1.1, by 3.1 and by 4.1; 2.1 is on none.
+abbrev desk6 : State
+desk6 = receives (fresh 6) (frame 5 1 [] ∷ frame 4 1 (firsts (5 ∷ [])) ∷ frame 3 1 (firsts (5 ∷ [])) ∷ frame 2 1 [] ∷ frame 1 1 (firsts (2 ∷ 3 ∷ 4 ∷ [])) ∷ [])
+
+abbrev foundChains : List (List ℕ)
+foundChains =
+    shown desk3 (id 3 1) (id 2 2) 3 ∷ shown desk3 (id 3 1) (id 2 2) 5
+    ∷ shown desk3 (id 2 2) (id 1 1) 3 ∷ shown desk3 (id 2 2) (id 1 1) 2
+    ∷ shown desk3 (id 1 2) (id 3 2) 0
+    ∷ shown desk3 (id 4 1) (id 4 1) 1
+    ∷ (shown desk3 (id 4 1) (id 4 1) 0 ++ shown desk3 (id 9 1) (id 4 1) 0 ++ shown desk3 (id 4 1) (id 9 1) 0)
+    ∷ shown desk6 (id 5 1) (id 1 1) 3
     ∷ []
 
 abbrev sameNumbers : List ℕ → List ℕ → Bool
@@ -254,6 +280,6 @@ equal (x ∷ xs) [] = false
 equal (x ∷ xs) (y ∷ ys) = sameNumbers x y && equal xs ys
 
 pub examples : T (equal found starred) × T (equal foundPinned pinned) × T (equal foundShort short) × T (equal foundClicks clicks)
-    × T (equal foundCounted counted) × T (equal foundConverted converted) × T (equal foundTails tails)
-unfolding isDesk isNumber boxRule at2 at4 bytes2 bytes4 pastIn fieldsOf headOf frameOf lengthBad versionBad countBad partBad fieldsBad entryBad entriesBad outputShort readFields readEntries writeSize same isHead heads previous ready missingEntries lacksPrevious missing reckoning falseEntries falseStamp concurrent new fieldsOfMark frameOfMark sizeOfMark markIn full newMark markAnswer mark refuse executing arrive unmade sameFields receiveMark receive relate apartOf firstApart frameAgainSize frameAgainBytes toSecondMark toSecondSize toSecondBytes toFirstMark toFirstSize toFirstBytes
-examples = (tt, tt, tt, tt, tt, tt, tt)
+    × T (equal foundCounted counted) × T (equal foundConverted converted) × T (equal foundTails tails) × T (equal foundChains chains)
+unfolding isDesk isNumber boxRule at2 at4 bytes2 bytes4 pastIn fieldsOf headOf frameOf lengthBad versionBad countBad partBad fieldsBad entryBad entriesBad outputShort readFields readEntries writeSize same isHead heads previous ready missingEntries lacksPrevious missing reckoning falseEntries falseStamp concurrent new fieldsOfMark frameOfMark sizeOfMark markIn full newMark markAnswer mark refuse executing arrive unmade sameFields receiveMark receive relate apartOf firstApart frameAgainSize frameAgainBytes toSecondMark toSecondSize toSecondBytes toFirstMark toFirstSize toFirstBytes chain inPast evidence evidenceChain evidencePairs
+examples = (tt, tt, tt, tt, tt, tt, tt, tt)

@@ -21,4 +21,5 @@ pub mod RowLaws
 pub mod Apart
 pub mod Tail
 pub mod RowCounts
+pub mod EvidenceLaws
 pub mod Laws

@@ -9,7 +9,9 @@ ghost use Rattle.causality.specs.declared.Counted.the-variants.{Refused};
 ghost use Rattle.causality.proofs.Apart.{someFollower};
 ghost use Rattle.executed.specs.Rows.{Lent};
 ghost use Rattle.rows.specs.View.{width, rowFn, rowAt, Named};
-ghost use Rattle.concurrent.specs.Found.{ApartAt, ApartFound, Spare};
+ghost use Rattle.concurrent.specs.Found.{ApartAt, ApartFound};
+ghost use Rattle.concurrent.specs.Steps.{Tells};
+ghost use Rattle.pairs.specs.Pairs.{Spare};
 ghost use Rattle.queries.specs.Lent.{OfCount};
 use causality::Counted;
 use causality::MarkId;
@@ -27,7 +29,7 @@ pub struct ApartList {
 }
 
 // Is mark x of a desk the first follower, of number f, or a later one? 0 is none.
-fn reaches(f: u16, x: u16) -> bool
+pub fn reaches(f: u16, x: u16) -> bool
     ensures { λ r. ⌜ r ≡ (ltb 0 f && leb f x) ⌝ }
 {
     0 < f && f <= x
@@ -60,8 +62,38 @@ fn follows<'a>(
     found
 }
 
-// One pass by place: a mark that is neither the given one nor follows it, and is not of its past, is apart. The first followers are noted:
-// behind one, all marks of its desk follow.
+// At each desk the number of its first mark before place q that is the mark at p or follows it; 0 is none. Ends where each desk has one: behind it
+// all marks of the desk follow.
+pub fn first_followers<'a>(
+    desks: &'a [u8; PLACES],
+    numbers: &'a [u16; PLACES],
+    stamps: &'a [u16; PLACES * WIDTH],
+    p: Place,
+    q: Place,
+) -> [u16; WIDTH]
+    requires { ⌜ (p .0 ≤ q .0) × (q .0 ≤ places) × Named width (q .0) (now desks) ⌝ }
+    ensures { λ r. ⌜ Tells width (now (desks .entry)) (now (numbers .entry)) (now (stamps .entry)) (p .0) (q .0) r ⌝ }
+{
+    let mut first = [0u16; WIDTH];
+    let mut noted = 0;
+    let mut r = p.0;
+    while r < q.0 {
+        let i = desks[r] as usize - 1;
+        if first[i] == 0 {
+            if follows(stamps, &first, p, Place(r)) {
+                first[i] = numbers[r];
+                noted += 1;
+                if noted == WIDTH {
+                    return first;
+                }
+            }
+        }
+        r += 1;
+    }
+    first
+}
+
+// The marks that neither are the given one nor follow it, and are not of its past: those apart, by place.
 fn apart<'a>(
     desks: &'a [u8; PLACES],
     numbers: &'a [u16; PLACES],
@@ -73,7 +105,7 @@ fn apart<'a>(
     ensures { λ r. ⌜ ApartAt (now (desks .entry)) (now (numbers .entry)) (now (stamps .entry)) count (p .0) r ⌝ }
 {
     let past = past(desks, numbers, stamps, p);
-    let mut first = [0u16; WIDTH];
+    let first = first_followers(desks, numbers, stamps, p, Place(count));
     let mut list = Listed {
         desks: [0; PLACES],
         numbers: [0; PLACES],
@@ -84,10 +116,8 @@ fn apart<'a>(
         let d = desks[q];
         let n = numbers[q];
         let i = d as usize - 1;
-        if first[i] == 0 {
-            if follows(stamps, &first, p, Place(q)) {
-                first[i] = n;
-            } else if past[i] < n {
+        if !reaches(first[i], n) {
+            if past[i] < n {
                 let k = list.count;
                 list.desks[k] = d;
                 list.numbers[k] = n;

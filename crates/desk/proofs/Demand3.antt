@@ -1,14 +1,15 @@
 -- Demand 3 of the calls, from their promises and history's theorem. Assumes nothing.
 use Prim.Native.Nat.{ℕ}
 use lib.Dec.{T, eqb}
-use lib.ListN.{length}
+use lib.ListN.{length, length-map}
 use mathlib.Core.Bool.{Bool, false, true}
 use mathlib.Core.List.{List, [], _∷_, map}
-use mathlib.Core.Path.{_∙_, _≡_, ap, refl}
+use mathlib.Core.Path.{_∙_, _≡_, ap, refl, sym}
 use Rattle.desk.specs.declared.Desk.{Desk}
 use Rattle.desk.specs.declared.CreatedDesk.{CreatedDesk}
 use Rattle.frame.specs.Mark.{desks}
 use Rattle.causality.specs.Calls.{mark, new, receive, relate, toSecondBytes, toSecondSize}
+use Rattle.causality.specs.Evidence.{evidence, evidencePairs}
 use Rattle.causality.specs.Marks.{All}
 use Rattle.causality.specs.Meaning.{idOf}
 use Rattle.causality.specs.State.{State}
@@ -17,7 +18,8 @@ use Rattle.desk.specs.Promises.{NewPromise}
 use Rattle.desk.specs.StateOf.{stateOf}
 use Rattle.history.specs.Demand3.{Agree}
 use Rattle.history.specs.Plain.{look, ofMark, ofReceive, plain}
-use Rattle.history.specs.Run.{Run, Step, atDesk, converted, fed, handing, marking, run, runStep, toFirst, toSecond, withoutMissing, written}
+use Rattle.history.specs.Run.{Run, Step, atDesk, converted, fed, handing, marking, run, runStep, stateAt, toFirst, toSecond, withoutMissing, written}
+use Rattle.history.proofs.Evidence.{evidence-holds}
 use Rattle.history.proofs.MarkRun.{fresh}
 use Rattle.history.proofs.Theorem.{consequences, demand3}
 
@@ -84,6 +86,11 @@ module _ (fresh : ℕ → CreatedDesk) (news : (d : ℕ) → NewPromise d (fresh
     agree = same;
     follows = rw (same-run rs) (consequences desks s at);
     relates = λ d t a b r p. p .answer ∙ ap (λ (x : State). relate x (idOf a) (idOf b)) (state-at (c .given) d) ∙ same .desks d t .relates (idOf a) (idOf b);
+    proves = λ d t a b out after r p.
+        let st = state-at (c .given) d ∙ ap (λ (x : Run). stateAt desks x d) (same-run rs) in
+        let answer = p .answer ∙ ap (λ (x : State). evidence x (idOf a) (idOf b) (length out)) st ∙ ap (evidence (stateAt desks (run desks s) d) (idOf a) (idOf b)) (sym (length-map out idOf)) in
+        let pairs = p .pairs ∙ ap (λ (x : State). evidencePairs x (idOf a) (idOf b) (map idOf out)) st in
+        rw (answer, pairs) (evidence-holds desks s at d t (idOf a) (idOf b) (map idOf out));
   }
     where
       same : Agree desks (statesOf c) (plain (fed s))

@@ -1,5 +1,5 @@
 -- THE CLAIM. Demand 3 of the calls: over every sequence of markings, hand-overs of frames of either edition and conversions, whatever New, Mark,
--- Receive and the converter did within their promises, desks and plain machine agree, and Relate answers as the history has it.
+-- Receive and the converter did within their promises, desks and plain machine agree, Relate answers as the history has it, and so does Evidence.
 use mathlib.Core.Path.{_≡_}
 use mathlib.Core.List.{List, [], _∷_, map}
 use mathlib.Core.Option.{none, some}
@@ -12,18 +12,20 @@ use Rattle.frame.specs.declared.MarkBox.{MarkBox}
 use Rattle.frame.specs.declared.Writing.{Writing}
 use Rattle.causality.specs.declared.MarkId.{MarkId as CodeId}
 use Rattle.causality.specs.Marks.{All}
-use Rattle.causality.specs.Meaning.{idOf, numbering, reception, relating}
+use Rattle.causality.specs.Meaning.{idOf, numbering, proving, reception, relating}
 use Rattle.history.specs.Plain.{StepAnswer, ofMark, ofReceive, Unmade, look, plain, listsAt, relation}
 use Rattle.history.specs.Run.{Step, marking, handing, toSecond, toFirst, atDesk, fed, Written, writtenId, written, converted, frameAt, Run, withoutMissing}
 use Rattle.history.specs.Demand3.{Agree, Consequent}
+use Rattle.history.specs.Evidence.{ProvedBy}
 use Rattle.desk.specs.declared.Desk.{Desk}
 use Rattle.desk.specs.declared.CreatedDesk.{CreatedDesk}
 use Rattle.desk.specs.declared.MarkedDesk.{MarkedDesk}
 use Rattle.desk.specs.declared.ReceivedDesk.{ReceivedDesk}
 use Rattle.desk.specs.declared.RelatedDesk.{RelatedDesk}
+use Rattle.desk.specs.declared.EvidenceDesk.{EvidenceDesk}
 use Rattle.desk.specs.declared.WrittenDesk.{WrittenDesk}
 use Rattle.desk.specs.StateOf.{stateOf}
-use Rattle.desk.specs.Promises.{NewPromise, MarkPromise, ReceivePromise, RelatePromise, ToSecondPromise, ToFirstPromise}
+use Rattle.desk.specs.Promises.{NewPromise, MarkPromise, ReceivePromise, RelatePromise, EvidencePromise, ToSecondPromise, ToFirstPromise}
 
 -- The desks as the last call there gave them, the frames that Mark wrote and the converter made, the answers of Mark and Receive, and those of the
 -- converter; newest first.
@@ -100,6 +102,10 @@ pub record CallsAgree (fresh : ℕ → CreatedDesk) (s : List Step) (c : CallRun
   -- What Relate answers, at every desk and for any two marks.
   pub relates : (d : ℕ) → T (isDesk desks d) → (a b : CodeId) (r : RelatedDesk) → RelatePromise (deskAt fresh c d) a b r
       → relating (r .answer) ≡ relation ((plain (fed s)) .made) (listsAt (plain (fed s)) d) (idOf a) (idOf b)
+  -- Order 5, "The evidence must hold in the history": at every desk, for any two marks and any lent pairs.
+  pub proves : (d : ℕ) → T (isDesk desks d) → (a b : CodeId) (out after : List CodeId) (r : EvidenceDesk)
+      → EvidencePromise (deskAt fresh c d) a b out after r
+      → ProvedBy ((plain (fed s)) .made) (listsAt (plain (fed s)) d) (idOf a) (idOf b) (map idOf out) (proving (r .answer)) (map idOf after)
 
 abbrev pub Demand3Calls : Type 0
 Demand3Calls = (fresh : ℕ → CreatedDesk) → ((d : ℕ) → NewPromise d (fresh d)) → (s : List Step) → All (λ t. T (atDesk desks t)) s

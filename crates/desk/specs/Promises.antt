@@ -8,15 +8,19 @@ use Rattle.frame.specs.Mark.{desks}
 use Rattle.frame.specs.declared.MarkBox.{MarkBox}
 use Rattle.causality.specs.declared.MarkId.{MarkId}
 use Rattle.causality.specs.Calls.{new, mark, receive, relate, apartCount, apartPairs, firstApart, frameAgainSize, frameAgainBytes, toSecondSize, toSecondBytes}
-use Rattle.causality.specs.Meaning.{idOf, creation, numbering, reception, relating, counting, lowestGiven}
+use Rattle.causality.specs.Evidence.{evidence, evidencePairs}
+use Rattle.causality.specs.Meaning.{idOf, creation, numbering, reception, relating, proving, counting, lowestGiven}
 use Rattle.frame.specs.declared.Writing.{Writing}
 use Rattle.concurrent.specs.Found.{ApartFound}
+use Rattle.evidence.specs.Found.{EvidenceFound}
 use Rattle.in_place.specs.Lent.{ToFirstIn}
 use Rattle.desk.specs.declared.Desk.{Desk}
 use Rattle.desk.specs.declared.CreatedDesk.{CreatedDesk}
 use Rattle.desk.specs.declared.MarkedDesk.{MarkedDesk}
 use Rattle.desk.specs.declared.ReceivedDesk.{ReceivedDesk}
 use Rattle.desk.specs.declared.RelatedDesk.{RelatedDesk}
+use Rattle.desk.specs.declared.EvidenceDesk.{EvidenceDesk}
+use Rattle.desk.specs.declared.ChainDesk.{ChainDesk}
 use Rattle.desk.specs.declared.CountedDesk.{CountedDesk}
 use Rattle.desk.specs.declared.ListedDesk.{ListedDesk}
 use Rattle.desk.specs.declared.LowestDesk.{LowestDesk}
@@ -42,6 +46,17 @@ pub record ReceivePromise (d : Desk) (s : List ℕ) (r : ReceivedDesk) : Type 0 
 pub record RelatePromise (d : Desk) (a b : MarkId) (r : RelatedDesk) : Type 0 where
   pub desk : r .desk ≡ d
   pub answer : relating (r .answer) ≡ relate (stateOf d) (idOf a) (idOf b)
+
+-- Order 5, "a call beside Relate".
+pub record EvidencePromise (d : Desk) (a b : MarkId) (out after : List MarkId) (r : EvidenceDesk) : Type 0 where
+  pub desk : r .desk ≡ d
+  pub answer : proving (r .answer) ≡ evidence (stateOf d) (idOf a) (idOf b) (length out)
+  pub pairs : map idOf after ≡ evidencePairs (stateOf d) (idOf a) (idOf b) (map idOf out)
+
+-- Evidence with no reference: the list that fills the pairs.
+pub record EvidenceListPromise (d : Desk) (a b : MarkId) (room : ℕ) (r : ChainDesk) : Type 0 where
+  pub desk : r .desk ≡ d
+  pub found : EvidenceFound (stateOf d) (idOf a) (idOf b) room (r .found)
 
 pub record ApartPromise (d : Desk) (a : MarkId) (out after : List MarkId) (r : CountedDesk) : Type 0 where
   pub desk : r .desk ≡ d

@@ -1,6 +1,7 @@
-// One desk's causality engine: the seven calls, and the converter.
+// One desk's causality engine: the seven calls, the converter, and Evidence.
 mod apart;
 mod convert;
+mod evidence_call;
 mod first_apart;
 mod frame_again;
 mod mark;
@@ -10,11 +11,13 @@ mod relate;
 
 use causality::Counted;
 use causality::Created;
+use causality::Evidence;
 use causality::Lowest;
 use causality::Marked;
 use causality::Received;
 use causality::Related;
 use concurrent::ApartList;
+use evidence::EvidenceList;
 use frame::Writing;
 use rows::BOX;
 use rows::PLACES;
@@ -59,6 +62,17 @@ pub struct ReceivedDesk {
 pub struct RelatedDesk {
     pub desk: Desk,
     pub answer: Related,
+}
+
+pub struct EvidenceDesk {
+    pub desk: Desk,
+    pub answer: Evidence,
+}
+
+// Evidence, with no reference.
+pub struct ChainDesk {
+    pub desk: Desk,
+    pub found: EvidenceList,
 }
 
 pub struct CountedDesk {

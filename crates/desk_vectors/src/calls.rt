@@ -114,6 +114,20 @@ pub fn relate(desk: Desk, a: u8, n: u16, b: u8, m: u16)
     show::related(answer);
 }
 
+// Evidence of a.n and b.m, with room for a chain of so many marks.
+pub fn evidence(desk: Desk, a: u8, n: u16, b: u8, m: u16, room: usize)
+    requires { ⌜ Kept desk ⌝ }
+{
+    let r = desk.evidence_list(mark_id(a, n), mark_id(b, m), room);
+    let found = r.found;
+    let list = found.list;
+    let answer = found.answer;
+    show::mark(b"Evidence of ", a, n);
+    show::mark(b", ", b, m);
+    show::number(b", room for ", room as u64);
+    show::evidenced(answer, list);
+}
+
 // Apart of d.n, with room for so many marks.
 pub fn apart(desk: Desk, d: u8, n: u16, room: usize)
     requires { ⌜ Kept desk ⌝ }

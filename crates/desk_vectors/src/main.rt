@@ -1,5 +1,6 @@
-// Runs document 01's cases of the seven calls and document 02's, the converter's among them, a line each; Apart by its list, with no reference. The file stdout has what the documents say.
+// Runs document 01's cases of the seven calls and document 02's, the converter's among them, a line each; Apart and Evidence by their lists, with no reference. The file stdout has what the documents say.
 mod calls;
+mod chains;
 mod clicks;
 mod editions;
 mod frames;
@@ -22,6 +23,7 @@ fn main() {
     clicks::run();
     editions::run();
     tails::run();
+    chains::run();
     limits::waiting();
     limits::full();
     sixteen::run();

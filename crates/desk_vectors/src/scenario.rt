@@ -123,6 +123,22 @@ fn first_apart(desk: Desk)
     calls::first_apart(desk, 4, 2, DESKS + 1);
 }
 
+// Order 5: each verdict, one place too few, and a mark that is not executed, where 12 comes before 13.
+fn evidence(desk: Desk)
+    requires { ⌜ Kept desk ⌝ }
+{
+    calls::evidence(desk, 3, 1, 2, 2, 3);
+    calls::evidence(desk, 2, 2, 1, 1, 3);
+    calls::evidence(desk, 2, 2, 1, 1, 2);
+    calls::evidence(desk, 1, 2, 3, 2, 0);
+    calls::evidence(desk, 4, 1, 4, 1, 1);
+    calls::evidence(desk, 4, 1, 4, 1, 0);
+    calls::evidence(desk, 9, 1, 4, 1, 3);
+    calls::evidence(desk, 4, 1, 9, 1, 3);
+    calls::evidence(desk, 9, 1, 4, 1, 0);
+    calls::evidence(desk, 4, 1, 9, 1, 0);
+}
+
 // Frame again of 4.1 into slot 40: the frame that Mark wrote, so it is known.
 fn again(desk: Desk, frames: &mut [u8])
     requires { ⌜ Kept desk ⌝ }
@@ -164,6 +180,7 @@ pub fn run() {
     relations(after);
     apart(after);
     first_apart(after);
+    evidence(after);
     again(after, frames);
     lent(after);
 }

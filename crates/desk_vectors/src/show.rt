@@ -1,6 +1,7 @@
 // The parts of a line: words, numbers, marks, and what a call answered in the document's words.
 use causality::Counted;
 use causality::Created;
+use causality::Evidence;
 use causality::Lowest;
 use causality::Marked;
 use causality::Received;
@@ -176,6 +177,29 @@ pub fn counted(answer: Counted, list: Listed) {
     match answer {
         Counted::Count(n) => number(b": count ", n as u64),
         Counted::Refused(r) => refused(r),
+    }
+    marks(list);
+    words(b"\n");
+}
+
+fn chained(label: &[u8], length: usize) {
+    number(label, length as u64);
+    words(b")");
+}
+
+fn concurrent(first: u16, second: u16) {
+    number(b": Concurrent(", first as u64);
+    number(b", ", second as u64);
+    words(b")");
+}
+
+pub fn evidenced(answer: Evidence, list: Listed) {
+    match answer {
+        Evidence::Same(length) => chained(b": Same(", length),
+        Evidence::Before(length) => chained(b": Before(", length),
+        Evidence::After(length) => chained(b": After(", length),
+        Evidence::Concurrent(first, second) => concurrent(first, second),
+        Evidence::Refused(r) => refused(r),
     }
     marks(list);
     words(b"\n");

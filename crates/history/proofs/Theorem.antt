@@ -175,7 +175,7 @@ module _ (N : ℕ) (some-desk : 1 ≤ N) (s : List Step) (at : AtDesks N s) wher
   says : (m : Mark) (r n : ℕ) → m .past ≡ Said r → T (sameCount (m .past) (Said n)) → m .past ≡ Said n
   says m r n e t = e ∙ ap Said (eqb→eq r n (subst (λ (p : Past). T (sameCount p (Said n))) e t))
 
-  at-desk : (d : ℕ) → AtDesk (markStateAt N (runMarks N s) d) (listsAt (plainOf s) d) ((plainOf s) .made)
+  pub at-desk : (d : ℕ) → AtDesk (markStateAt N (runMarks N s) d) (listsAt (plainOf s) d) ((plainOf s) .made)
   unfolding lastOfPast
   at-desk d =
       let st = markStateAt N (runMarks N s) d in

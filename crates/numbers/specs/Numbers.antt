@@ -18,6 +18,8 @@ use Rattle.causality.specs.declared.Received.{Received}
 use Rattle.causality.specs.declared.Received.the-variants.{Known, Waiting, Executed, Refused as NotReceived}
 use Rattle.causality.specs.declared.Related.{Related}
 use Rattle.causality.specs.declared.Related.the-variants.{Same, Before, After, Concurrent, Refused as NotRelated}
+use Rattle.causality.specs.declared.Evidence.{Evidence}
+use Rattle.causality.specs.declared.Evidence.the-variants.{Same as SameBy, Before as BeforeBy, After as AfterBy, Concurrent as ConcurrentBy, Refused as NoEvidence}
 use Rattle.causality.specs.declared.Lowest.{Lowest}
 use Rattle.causality.specs.declared.Lowest.the-variants.{Number, None, Refused as NoLowest}
 use Rattle.causality.specs.declared.Counted.{Counted}
@@ -46,6 +48,14 @@ relatedNumbers Before = (0, 2)
 relatedNumbers After = (0, 3)
 relatedNumbers Concurrent = (0, 4)
 relatedNumbers (NotRelated r) = (numberOf r, 0)
+
+-- Refusal; as of Relate; the chain's length; the two counts.
+abbrev pub evidenceNumbers : Evidence → ℕ × ℕ × ℕ × ℕ × ℕ
+evidenceNumbers (SameBy n) = (0, 1, n, 0, 0)
+evidenceNumbers (BeforeBy n) = (0, 2, n, 0, 0)
+evidenceNumbers (AfterBy n) = (0, 3, n, 0, 0)
+evidenceNumbers (ConcurrentBy x y) = (0, 4, 0, x, y)
+evidenceNumbers (NoEvidence r) = (numberOf r, 0, 0, 0, 0)
 
 -- Refusal; how many.
 abbrev pub countedNumbers : Counted → ℕ × ℕ

@@ -1,9 +1,10 @@
 // The answers of the calls as numbers, for a host: each has the number of the refusal, 0 where there is none; the other numbers are 0 on a refusal.
 ghost use mathlib.Core.Path.{_≡_};
 ghost use Rattle.numbers.specs.Numbers.{createdNumber, markedNumbers, receivedNumbers, relatedNumbers};
-ghost use Rattle.numbers.specs.Numbers.{countedNumbers, lowestNumbers, writtenNumbers, editionNumber, countNumber, readNumbers};
+ghost use Rattle.numbers.specs.Numbers.{evidenceNumbers, countedNumbers, lowestNumbers, writtenNumbers, editionNumber, countNumber, readNumbers};
 use causality::Counted;
 use causality::Created;
+use causality::Evidence;
 use causality::Lowest;
 use causality::Marked;
 use causality::Received;
@@ -35,6 +36,17 @@ pub struct ReceiveAnswer {
 pub struct RelateAnswer {
     pub refusal: u8,
     pub relation: u8,
+}
+
+// relation: as in RelateAnswer. length: of the chain. first, second: of Concurrent, how many marks of the first mark's desk the second has in its past,
+// and the other way.
+#[repr(C)]
+pub struct EvidenceAnswer {
+    pub refusal: u8,
+    pub relation: u8,
+    pub length: usize,
+    pub first: u16,
+    pub second: u16,
 }
 
 #[repr(C)]
@@ -148,6 +160,41 @@ pub fn related(answer: Related) -> RelateAnswer
         }
     }
     r
+}
+
+pub fn evidenced(answer: Evidence) -> EvidenceAnswer
+    ensures { λ r. ⌜ evidenceNumbers answer ≡ (r .refusal, r .relation, r .length, r .first, r .second) ⌝ }
+{
+    let mut e = EvidenceAnswer {
+        refusal: 0,
+        relation: 0,
+        length: 0,
+        first: 0,
+        second: 0,
+    };
+    match answer {
+        Evidence::Same(one) => {
+            e.relation = 1;
+            e.length = one;
+        }
+        Evidence::Before(forward) => {
+            e.relation = 2;
+            e.length = forward;
+        }
+        Evidence::After(back) => {
+            e.relation = 3;
+            e.length = back;
+        }
+        Evidence::Concurrent(first, second) => {
+            e.relation = 4;
+            e.first = first;
+            e.second = second;
+        }
+        Evidence::Refused(refusal) => {
+            e.refusal = refusal.number();
+        }
+    }
+    e
 }
 
 pub fn counted(answer: Counted) -> ApartAnswer

@@ -51,11 +51,11 @@ module _ (xs : List CodeId) (list : Listed) where
       map-set idOf (filled xs list k) k (pairAt list k)
       ∙ rw (filled-names k (omega arith), drop-cons ids k d within, set-at (up k) _ (drop (suc k) ids) d k (length-namesUp k (list .desks) (list .numbers)), reverse-cons, append-assoc)
 
-  pub filled-gives : (a : ℕ) → list .count ≤ length xs → map idOf (filled xs list (list .count)) ≡ overIf (gives a) (marksOf list) ids
+  pub filled-gives : {A : Type 0} (a : A) → list .count ≤ length xs → map idOf (filled xs list (list .count)) ≡ overIf (gives a) (marksOf list) ids
   unfolding marksOf
   filled-gives a h = rw length-marksOf (filled-names (list .count) h)
 
   -- What is left in the lent run, whatever the answer.
-  pub filled-over : (a : Answer ℕ) (names : List MarkId) → ListsIf a names list → list .count ≤ length xs → map idOf (filled xs list (list .count)) ≡ overIf a names ids
+  pub filled-over : {A : Type 0} (a : Answer A) (names : List MarkId) → ListsIf a names list → list .count ≤ length xs → map idOf (filled xs list (list .count)) ≡ overIf a names ids
   filled-over (gives a) names e h = rw (← e) (filled-gives a h)
   filled-over (refused c) names e h = rw e

@@ -6,6 +6,7 @@ use Prim.Native.Nat.{ℕ, suc, min, _-_, _≤_, _<_}
 use lib.Dec.{T, leb, ltb}
 use lib.ListN.{length, getD, take}
 use Rattle.frame.specs.Mark.{MarkId}
+use Rattle.causality.specs.Evidence.{inPast}
 use Rattle.causality.specs.Marks.{has, tally}
 use Rattle.causality.specs.State.{ids, precedes}
 use Rattle.causality.proofs.Reach.{Sound}
@@ -14,6 +15,7 @@ use Rattle.executed.specs.Rows.{Lent}
 use Rattle.rows.specs.View.{Carried, Named, nameAt, namesDown, rowAt, rowFn, view, width}
 use Rattle.queries.specs.declared.first_apart.Searched.{Searched}
 use Rattle.queries.specs.Halving.{halving, mostAsks}
+use Rattle.queries.specs.Lent.{OfMarks}
 
 -- Of a mark that is none of the first `to`, r says whether entries lead to it from a row and the marks before a place.
 abbrev pub Leads : List ℕ → List ℕ → List ℕ → List ℕ → ℕ → ℕ → MarkId → Bool → Type 0
@@ -72,3 +74,7 @@ pub record SearchedOf (ds ns ss : List ℕ) (p d t : ℕ) (r : Searched) : Type 
   pub run : FirstRunAt width ds ns ss p d t (r .precede)
   pub asks : (count : ℕ) (bs : ℕ → Carried) → p < count → Sound (view width count ds ns bs ss)
       → r .asks ≡ length (halving (numberPrecedes width count ds ns bs ss p d) mostAsks (min (rowAt width ss p d) t) t)
+
+-- So many marks of desk d precede that at place p, however many marks there are.
+abbrev pub InPastOf : List ℕ → List ℕ → List ℕ → ℕ → ℕ → ℕ → Type 0
+InPastOf ds ns ss p d r = (count : ℕ) → p < count → OfMarks width count ds ns ss (λ l. r ≡ inPast l d (nameAt ds ns p))

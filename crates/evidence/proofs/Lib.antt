@@ -1,0 +1,8 @@
+-- The modules of the laws and proofs.
+pub mod LowestEntry
+pub mod Chains
+pub mod Reversing
+pub mod Walk
+pub mod Betweens
+pub mod Verdicts
+pub mod Ways

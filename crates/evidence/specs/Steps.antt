@@ -1,0 +1,75 @@
+-- What the inner functions of Evidence find. n: how many desks. Inner: need not be believed.
+use mathlib.Core.Bool.{Bool, true, false, _&&_}
+use mathlib.Core.List.{List, [], _∷_, reverse}
+use mathlib.Core.Path.{_≡_}
+use Prim.Native.Nat.{ℕ, suc, _+_, _*_, _≤_, _<_}
+use lib.Dec.{T, eqb, leb, ltb}
+use lib.ListN.{getD}
+use Rattle.frame.specs.Mark.{MarkId}
+use Rattle.causality.specs.Evidence.{goingBack}
+use Rattle.causality.specs.Marks.{places}
+use Rattle.causality.specs.declared.Evidence.{Evidence}
+use Rattle.causality.specs.declared.Evidence.the-variants.{Same, Before, After}
+use Rattle.causality.specs.State.{Mark}
+use Rattle.pairs.specs.Pairs.{Spare}
+use Rattle.pairs.specs.declared.Listed.{Listed}
+use Rattle.rows.specs.View.{nameAt, namesDown}
+use Rattle.concurrent.specs.Steps.{Tells, isOrFollows}
+use Rattle.queries.specs.Lent.{OfMarks}
+
+-- Does the entry at index j of row q of the stamps reach the row?
+abbrev pub reachedAt : ℕ → List ℕ → List ℕ → ℕ → ℕ → Bool
+reachedAt n first ss q j = ltb 0 (getD first j 0) && leb (getD first j 0) (getD ss (q * n + j) 0)
+
+-- The lowest index at which it does; n where there is none.
+pub record LowestReached (n : ℕ) (first ss : List ℕ) (q r : ℕ) : Type 0 where
+  pub within : r ≤ n
+  pub there : r < n → reachedAt n first ss q r ≡ true
+  pub lowest : (j : ℕ) → j < r → reachedAt n first ss q j ≡ false
+
+-- The place of mark i below `at`, where it is at one.
+pub record PlaceBelow (ds ns : List ℕ) (at : ℕ) (i : MarkId) (r : ℕ) : Type 0 where
+  pub less : 0 < at → r < at
+  pub found : (q : ℕ) → q < at → nameAt ds ns q ≡ i → nameAt ds ns r ≡ i
+
+-- The place to which the chain from the mark at a place p goes back from place `at`, by a row that tells of the marks.
+pub record SteppedBack (n : ℕ) (ds ns ss first : List ℕ) (at r : ℕ) : Type 0 where
+  pub less : r < at
+  pub towards : (p q : ℕ) → p < at → at ≤ q → Tells n ds ns ss p q first → (count : ℕ) → q < count
+      → OfMarks n count ds ns ss (λ l. T (isOrFollows l (nameAt ds ns p) (nameAt ds ns at)) → T (isOrFollows l (nameAt ds ns p) (nameAt ds ns r))
+      × (goingBack l (nameAt ds ns p) (nameAt ds ns at) ≡ nameAt ds ns at ∷ goingBack l (nameAt ds ns p) (nameAt ds ns r)))
+
+-- The chain from the mark at place p, going back from that at place q, in this order.
+pub record GoneBack (n : ℕ) (ds ns ss : List ℕ) (p q : ℕ) (r : Listed) : Type 0 where
+  pub few : r .count ≤ suc q
+  pub spare : Spare r
+  pub names : (count : ℕ) → q < count → OfMarks n count ds ns ss (λ l. T (isOrFollows l (nameAt ds ns p) (nameAt ds ns q))
+      → namesDown (r .count) (r .desks) (r .numbers) ≡ reverse (goingBack l (nameAt ds ns p) (nameAt ds ns q)))
+
+-- The first `count` of lent slots.
+abbrev pub slots : List ℕ → List ℕ → ℕ → Listed
+slots ds ns count = record { desks = ds; numbers = ns; count = count }
+
+-- A list in the other order.
+pub record Reversed (list r : Listed) : Type 0 where
+  pub count : r .count ≡ list .count
+  pub spare : Spare r
+  pub names : namesDown (r .count) (r .desks) (r .numbers) ≡ reverse (namesDown (list .count) (list .desks) (list .numbers))
+
+-- From b back to a, where b is a or follows a; else none.
+abbrev pub backIf : List Mark → MarkId → MarkId → List MarkId
+backIf l a b = elim (isOrFollows l a b) [ true ↦ goingBack l a b | false ↦ [] ]
+
+-- The chain from the mark at place p, going back from that at place q, if there is one.
+pub record Between (n : ℕ) (ds ns ss : List ℕ) (p q : ℕ) (r : Listed) : Type 0 where
+  pub few : r .count ≤ places
+  pub names : (count : ℕ) → q < count
+      → OfMarks n count ds ns ss (λ l. namesDown (r .count) (r .desks) (r .numbers) ≡ reverse (backIf l (nameAt ds ns p) (nameAt ds ns q)))
+
+-- The same, whichever of the two stands first.
+abbrev pub EitherWay : ℕ → List ℕ → List ℕ → List ℕ → ℕ → ℕ → Listed → Type 0
+EitherWay n ds ns ss p q r = (p ≤ q → Between n ds ns ss p q r) × (q < p → Between n ds ns ss q p r)
+
+-- The verdict of two places between which there is a chain of so many.
+abbrev pub verdictAt : ℕ → ℕ → ℕ → Evidence
+verdictAt p q n = elim (eqb p q) [ true ↦ Same n | false ↦ elim (ltb p q) [ true ↦ Before n | false ↦ After n ] ]
