@@ -9,6 +9,9 @@ _Static_assert(sizeof(kaungimewe_mark_id) == 4, "a mark's name has 4 bytes");
 _Static_assert(offsetof(kaungimewe_mark_id, number) == 2, "the number stands at offset 2");
 _Static_assert(sizeof(kaungimewe_waiting) == 3400, "waiting marks have 3,400 bytes");
 _Static_assert(sizeof(kaungimewe_desk) == 31672, "a desk has 31,672 bytes");
+_Static_assert(sizeof(kaungimewe_evidence_answer) == 24, "what evidence answers has 24 bytes");
+_Static_assert(offsetof(kaungimewe_evidence_answer, length) == 8, "the length stands at offset 8");
+_Static_assert(offsetof(kaungimewe_evidence_answer, second) == 18, "the second count stands at offset 18");
 _Static_assert(sizeof(kaungimewe_read_answer) == 32, "what the reader answers has 32 bytes");
 _Static_assert(offsetof(kaungimewe_read_answer, edition) == 20, "the edition stands at offset 20");
 _Static_assert(offsetof(kaungimewe_read_answer, past) == 22, "the past count stands at offset 22");
@@ -177,6 +180,41 @@ static void check_relations(void)
     check(kaungimewe_relate(&desk[3], 4, 1, 4, 2).refusal == KAUNGIMEWE_NOT_EXECUTED, "4.2 is not there");
 }
 
+/* Desk 3 gives no evidence of the two marks with this room and refusal, and writes nothing. */
+static void refuse_evidence(kaungimewe_mark_id a, kaungimewe_mark_id b, size_t room, unsigned refusal)
+{
+    kaungimewe_mark_id out[4] = {{99, 9}, {99, 9}, {99, 9}, {99, 9}};
+    kaungimewe_evidence_answer e = kaungimewe_evidence(&desk[3], a.desk, a.number, b.desk, b.number, out, room);
+    check(e.refusal == refusal && e.relation == 0 && e.length == 0 && e.first == 0 && e.second == 0, "evidence refuses");
+    check(named(out[0], 99, 9) && named(out[1], 99, 9), "refused evidence writes nothing");
+}
+
+static void check_evidence(void)
+{
+    const kaungimewe_mark_id m11 = {1, 1}, m22 = {2, 2}, m41 = {4, 1}, m42 = {4, 2};
+    kaungimewe_mark_id out[4] = {{99, 9}, {99, 9}, {99, 9}, {99, 9}};
+    remember(3);
+    kaungimewe_evidence_answer e = kaungimewe_evidence(&desk[3], 1, 2, 3, 2, out, 4);
+    check(e.refusal == 0 && e.relation == KAUNGIMEWE_CONCURRENT && e.length == 0, "1.2 concurrent with 3.2, no chain");
+    check(e.first == 0 && e.second == 1 && named(out[0], 99, 9), "none of desk 1, one of desk 3; nothing is written");
+    check(kaungimewe_evidence(&desk[3], 1, 2, 3, 2, out, 0).refusal == 0, "concurrent marks need no room");
+    e = kaungimewe_evidence(&desk[3], 4, 1, 4, 1, out, 4);
+    check(e.refusal == 0 && e.relation == KAUNGIMEWE_SAME && e.length == 1, "4.1 the same as 4.1");
+    check(named(out[0], 4, 1) && named(out[1], 99, 9), "a chain of one");
+    e = kaungimewe_evidence(&desk[3], 3, 1, 2, 2, out, 3);
+    check(e.refusal == 0 && e.relation == KAUNGIMEWE_BEFORE && e.length == 3 && e.first == 0, "3.1 before 2.2");
+    check(named(out[0], 3, 1) && named(out[1], 1, 2) && named(out[2], 2, 2), "the chain is 3.1, 1.2, 2.2");
+    check(named(out[3], 99, 9), "names beyond the chain keep their values");
+    e = kaungimewe_evidence(&desk[3], 2, 2, 1, 1, out, 4);
+    check(e.refusal == 0 && e.relation == KAUNGIMEWE_AFTER && e.length == 3 && e.second == 0, "2.2 after 1.1");
+    check(named(out[0], 1, 1) && named(out[2], 2, 2), "the chain is from the earlier to the later mark");
+    refuse_evidence(m22, m11, 2, KAUNGIMEWE_OUTPUT_SHORT);
+    refuse_evidence(m41, m41, 0, KAUNGIMEWE_OUTPUT_SHORT);
+    refuse_evidence(m41, m42, 0, KAUNGIMEWE_NOT_EXECUTED);
+    refuse_evidence(m42, m41, 4, KAUNGIMEWE_NOT_EXECUTED);
+    check_unchanged(3, "evidence leaves the desk");
+}
+
 static void check_frames(void)
 {
     uint8_t out[40];
@@ -292,6 +330,7 @@ static void check_desk_3(void)
 {
     check_rows();
     check_relations();
+    check_evidence();
     check_apart();
     check_first_apart();
     check_frames();

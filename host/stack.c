@@ -59,6 +59,13 @@ static void *relate(void *unused)
     return unused;
 }
 
+/* A chain of 511 marks. */
+static void *evidence(void *unused)
+{
+    failed += kaungimewe_evidence(&maker, 1, 1, 1, MARKS, names, KAUNGIMEWE_PLACES).length != MARKS;
+    return unused;
+}
+
 static void *apart(void *unused)
 {
     failed += kaungimewe_apart(&maker, 1, MARKS, names, KAUNGIMEWE_PLACES).count != 0;
@@ -148,6 +155,7 @@ int main(void)
     measure("receive", receive, NULL);
     measure("junk frame", junk, NULL);
     measure("relate", relate, NULL);
+    measure("evidence", evidence, NULL);
     measure("apart", apart, NULL);
     measure("first apart", first_apart, NULL);
     measure("frame again", frame_again, NULL);

@@ -14,10 +14,10 @@
  *   marks beside it: their marks would share names.
  * - No pointer is NULL, also where its length is 0. What a call writes to overlaps nothing else that it is lent.
  *
- * A desk has 31,672 bytes; only kaungimewe_new gives one by value and took 62 KiB of stack when measured. Apart took
- * under 5 KiB, every other call under 1 KiB (host/stack.c measures them). No call allocates, blocks, or keeps anything
- * between calls. Every call may be made from any thread; while one thread marks or receives at a desk, no other may use
- * that desk.
+ * A desk has 31,672 bytes; only kaungimewe_new gives one by value and took 62 KiB of stack when measured. Apart and
+ * Evidence took under 5 KiB, every other call under 1 KiB (host/stack.c measures them). No call allocates, blocks, or
+ * keeps anything between calls. Every call may be made from any thread; while one thread marks or receives at a desk,
+ * no other may use that desk.
  *
  * Link with target/staticlib/libabi.a, which `rt staticlib abi` proves and writes.
  */
@@ -62,16 +62,16 @@ enum {
     KAUNGIMEWE_WAITING_FULL = 10,  /* not ready, 64 waiting: receive */
     KAUNGIMEWE_FALSE_STAMP = 11,   /* ready, false stamp: by its entries, or by a past count that is not the desk's own
                                     * reckoning: receive */
-    KAUNGIMEWE_NOT_EXECUTED = 12,  /* a named mark is not executed: relate, apart, first_apart, frame_again, to2 (that of
-                                    * the frame) */
-    KAUNGIMEWE_OUTPUT_SHORT = 13,  /* lent output too short: write, write2, mark, apart, frame_again, to2, to1 */
+    KAUNGIMEWE_NOT_EXECUTED = 12,  /* a named mark is not executed: relate, evidence, apart, first_apart, frame_again, to2
+                                    * (that of the frame) */
+    KAUNGIMEWE_OUTPUT_SHORT = 13,  /* lent output too short: write, write2, mark, evidence, apart, frame_again, to2, to1 */
     KAUNGIMEWE_SAME_EDITION = 14   /* frame already of the wanted edition: to2, to1 */
 };
 
 /* What receive answers. */
 enum { KAUNGIMEWE_KNOWN = 1, KAUNGIMEWE_WAITS = 2, KAUNGIMEWE_EXECUTED = 3 };
 
-/* What relate answers: the first mark is the same as, before, after or concurrent with the second. */
+/* What relate and evidence answer: the first mark is the same as, before, after or concurrent with the second. */
 enum { KAUNGIMEWE_SAME = 1, KAUNGIMEWE_BEFORE = 2, KAUNGIMEWE_AFTER = 3, KAUNGIMEWE_CONCURRENT = 4 };
 
 /* A mark's box: start and end in milliseconds, low and high in hertz; start <= end and low < high. A click is boxed as one
@@ -146,6 +146,14 @@ typedef struct {
 
 typedef struct {
     uint8_t refusal;
+    uint8_t relation; /* as of relate */
+    size_t length;    /* of the chain, 1 of KAUNGIMEWE_SAME; 0 of KAUNGIMEWE_CONCURRENT, which has none */
+    uint16_t first;   /* of KAUNGIMEWE_CONCURRENT: how many marks of the first mark's desk are in the second's past, */
+    uint16_t second;  /* and how many of the second's desk in the first's; both below the marks' own numbers; else 0 */
+} kaungimewe_evidence_answer;
+
+typedef struct {
+    uint8_t refusal;
     size_t count; /* of the marks apart */
 } kaungimewe_apart_answer;
 
@@ -187,6 +195,12 @@ kaungimewe_receive_answer kaungimewe_receive_lent(uint8_t own, size_t *count, ui
 kaungimewe_relate_answer kaungimewe_relate_lent(const uint8_t *desks, const uint16_t *numbers, const uint16_t *stamps,
                                                 const uint16_t *tally, const uint16_t *last, const uint16_t *before,
                                                 uint8_t a_desk, uint16_t a_number, uint8_t b_desk, uint16_t b_number);
+
+kaungimewe_evidence_answer kaungimewe_evidence_lent(const uint8_t *desks, const uint16_t *numbers,
+                                                    const uint16_t *stamps, const uint16_t *tally, const uint16_t *last,
+                                                    const uint16_t *before, uint8_t a_desk, uint16_t a_number,
+                                                    uint8_t b_desk, uint16_t b_number, kaungimewe_mark_id *out,
+                                                    size_t room);
 
 kaungimewe_apart_answer kaungimewe_apart_lent(const uint8_t *desks, const uint16_t *numbers, const uint16_t *stamps,
                                               size_t count, const uint16_t *tally, const uint16_t *last,
@@ -240,6 +254,18 @@ static inline kaungimewe_relate_answer kaungimewe_relate(const kaungimewe_desk *
 {
     return kaungimewe_relate_lent(desk->desks, desk->numbers, desk->stamps, desk->tally, desk->last, desk->before,
                                   a_desk, a_number, b_desk, b_number);
+}
+
+/* Evidence: what Relate answers, with what shows it. Before and After come with a chain from the earlier to the later
+ * mark, each an entry of the next one's stamp: going back from the later mark, the entry of lowest desk that is the
+ * earlier mark or follows it. Same has a chain of one. The chain is written to the first `length` of the `room` names at
+ * `out`; later ones keep their values. Concurrent writes nothing and comes with two counts. Refuses with 12, 13. */
+static inline kaungimewe_evidence_answer kaungimewe_evidence(const kaungimewe_desk *desk, uint8_t a_desk,
+                                                             uint16_t a_number, uint8_t b_desk, uint16_t b_number,
+                                                             kaungimewe_mark_id *out, size_t room)
+{
+    return kaungimewe_evidence_lent(desk->desks, desk->numbers, desk->stamps, desk->tally, desk->last, desk->before,
+                                    a_desk, a_number, b_desk, b_number, out, room);
 }
 
 /* Apart: the executed marks concurrent with a given one, by place, written to the first `count` of the `room` names at

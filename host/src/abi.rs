@@ -73,6 +73,15 @@ pub(crate) struct RelateAnswer {
 }
 
 #[repr(C)]
+pub(crate) struct EvidenceAnswer {
+    pub refusal: u8,
+    pub relation: u8,
+    pub length: usize,
+    pub first: u16,
+    pub second: u16,
+}
+
+#[repr(C)]
 pub(crate) struct ApartAnswer {
     pub refusal: u8,
     pub count: usize,
@@ -101,7 +110,7 @@ pub(crate) struct ReadAnswer {
     pub entries_size: usize,
 }
 
-const _: () = assert!(size_of::<ReadAnswer>() == 32);
+const _: () = assert!(size_of::<EvidenceAnswer>() == 24 && size_of::<ReadAnswer>() == 32);
 
 // What each call asks of its caller: that all it is lent of a desk is of one desk as New and the calls gave it, and that
 // a pointer is good for so many bytes or names.
@@ -163,6 +172,21 @@ extern "C" {
         b_desk: u8,
         b_number: u16,
     ) -> RelateAnswer;
+
+    pub(crate) fn kaungimewe_evidence_lent(
+        desks: &[u8; PLACES],
+        numbers: &[u16; PLACES],
+        stamps: &[u16; PLACES * DESKS],
+        tally: &[u16; DESKS],
+        last: &[u16; DESKS],
+        before: &[u16; PLACES],
+        a_desk: u8,
+        a_number: u16,
+        b_desk: u8,
+        b_number: u16,
+        out: *mut MarkId,
+        room: usize,
+    ) -> EvidenceAnswer;
 
     pub(crate) fn kaungimewe_apart_lent(
         desks: &[u8; PLACES],

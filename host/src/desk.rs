@@ -2,7 +2,7 @@
 use std::fmt;
 
 use crate::abi;
-use crate::{Mark, MarkBox, MarkId, Marked, PastCount, Reception, Refusal, Relation};
+use crate::{Evidence, Mark, MarkBox, MarkId, Marked, PastCount, Reception, Refusal, Relation};
 
 /// A desk: it numbers the marks made there, executes those of other desks in causal order, and relates them.
 ///
@@ -119,6 +119,26 @@ impl Desk {
             2 => Relation::Before,
             3 => Relation::After,
             _ => Relation::Concurrent,
+        })
+    }
+
+    /// Evidence: what Relate answers, with what shows it. The chain of Same, Before and After goes to the first of the
+    /// lent names; later ones keep their values, and Concurrent writes none. Refuses with 12 and 13.
+    pub fn evidence(&self, a: MarkId, b: MarkId, out: &mut [MarkId]) -> Result<Evidence, Refusal> {
+        let abi::Desk { desks, numbers, stamps, tally, last, before, .. } = &*self.raw;
+        let ((a, n), (b, m), (lent, room)) = ((a.desk, a.number), (b.desk, b.number), (out.as_mut_ptr(), out.len()));
+        // SAFETY: all that is lent is of one desk that came from the calls; the pointer is good for the lent names, and
+        // `out` overlaps nothing.
+        let answer = unsafe {
+            abi::kaungimewe_evidence_lent(desks, numbers, stamps, tally, last, before, a, n, b, m, lent, room)
+        };
+        Refusal::check(answer.refusal)?;
+        let length = answer.length;
+        Ok(match answer.relation {
+            1 => Evidence::Same { length },
+            2 => Evidence::Before { length },
+            3 => Evidence::After { length },
+            _ => Evidence::Concurrent { first: answer.first, second: answer.second },
         })
     }
 

@@ -3,10 +3,10 @@
 //! Observers draw boxes around whale calls. A box drawn in knowledge of another is no independent sighting. Each
 //! observer works at a [`Desk`], which numbers the marks made there, stamps each with its direct predecessors (direct
 //! causal vectors), executes the marks of other desks in causal order, and says of any two marks which was made in
-//! knowledge of which.
+//! knowledge of which, with what shows it.
 //!
 //! ```
-//! use kaungimewe::{Desk, MarkBox, MarkId, Reception, Relation, LARGEST_FRAME};
+//! use kaungimewe::{Desk, Evidence, MarkBox, MarkId, Reception, Relation, LARGEST_FRAME};
 //!
 //! # fn main() -> Result<(), kaungimewe::Refusal> {
 //! let mut ann = Desk::new(1)?;
@@ -20,6 +20,10 @@
 //! bob.mark(MarkBox::new(1_100, 1_400, 120, 380), &mut frame)?;
 //! let (first, second) = (MarkId::new(1, 1), MarkId::new(2, 1));
 //! assert_eq!(bob.relate(first, second)?, Relation::Before);
+//!
+//! let mut chain = [MarkId::default(); 2];
+//! assert_eq!(bob.evidence(first, second, &mut chain)?, Evidence::Before { length: 2 });
+//! assert_eq!(chain, [first, second]);
 //! # Ok(())
 //! # }
 //! ```
@@ -40,7 +44,7 @@ mod refusal;
 
 pub use desk::{Desk, Snapshot};
 pub use frame::{reader, to1, writer, Fields, HEAD, HEAD2, LARGEST_FRAME, PASTS};
-pub use marks::{Mark, MarkBox, MarkId, Marked, PastCount, Reception, Relation};
+pub use marks::{Evidence, Mark, MarkBox, MarkId, Marked, PastCount, Reception, Relation};
 pub use refusal::Refusal;
 
 /// Desks are numbered 1 to 16; a stamp has at most so many entries.

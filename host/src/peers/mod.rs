@@ -8,7 +8,7 @@ pub mod clocks;
 pub mod draws;
 pub mod model;
 
-use crate::{Desk, Mark, MarkBox, MarkId, Marked, Reception, Refusal, Relation, Snapshot};
+use crate::{Desk, Evidence, Mark, MarkBox, MarkId, Marked, Reception, Refusal, Relation, Snapshot};
 
 /// The calls that all engines here have, as [`Desk`] documents them.
 pub trait Engine: Sized {
@@ -30,6 +30,8 @@ pub trait Engine: Sized {
 pub trait Stamped: Engine {
     /// A desk at some moment.
     type Snapshot: PartialEq;
+    /// Evidence.
+    fn evidence(&self, a: MarkId, b: MarkId, out: &mut [MarkId]) -> Result<Evidence, Refusal>;
     /// Frame again.
     fn frame_again(&self, a: MarkId, out: &mut [u8]) -> Result<usize, Refusal>;
     /// The converter from edition 1 to 2.
@@ -65,6 +67,9 @@ impl Engine for Desk {
 
 impl Stamped for Desk {
     type Snapshot = Snapshot;
+    fn evidence(&self, a: MarkId, b: MarkId, out: &mut [MarkId]) -> Result<Evidence, Refusal> {
+        Desk::evidence(self, a, b, out)
+    }
     fn frame_again(&self, a: MarkId, out: &mut [u8]) -> Result<usize, Refusal> {
         Desk::frame_again(self, a, out)
     }

@@ -5,7 +5,8 @@ use std::process::{Command, Output, Stdio};
 const EXAMPLES: &str = concat!(env!("CARGO_MANIFEST_DIR"), "/../examples");
 
 /// The calls that the benchmark times and bounds.
-const TIMED: [&str; 7] = ["Receive", "Mark", "Relate, all pairs", "Apart", "First apart", "Frame again", "Junk frame"];
+const TIMED: [&str; 8] =
+    ["Receive", "Mark", "Relate, all pairs", "Apart", "First apart", "Evidence, all", "Frame again", "Junk frame"];
 
 /// Runs the tool in the folder of examples, with a script on standard input.
 fn tool(words: &[&str], script: &str) -> Output {
@@ -43,6 +44,7 @@ fn examples_are_answered_as_stored() {
     assert_eq!(printed(&["run", "clicks.txt"], ""), stored("clicks.out"));
     assert_eq!(printed(&["run", "editions.txt"], ""), stored("editions.out"));
     assert_eq!(printed(&["run", "first_apart.txt"], ""), stored("first_apart.out"));
+    assert_eq!(printed(&["run", "why.txt"], ""), stored("why.out"));
 }
 
 #[test]
@@ -69,6 +71,7 @@ fn a_wrong_line_stops_the_run() {
         ("new 1\nlist 2\n", "desk 1\n", "line 2: there is no such desk: `new` has not made it\n"),
         ("new 1\nhand 2 1.1\n", "desk 1\n", "line 2: there is no such desk: `new` has not made it\n"),
         ("new 1\nhand1 2 1.1\n", "desk 1\n", "line 2: there is no such desk: `new` has not made it\n"),
+        ("new 1\nwhy 2 1.1 1.1\n", "desk 1\n", "line 2: there is no such desk: `new` has not made it\n"),
         ("new 1\nto2 2 -\n", "desk 1\n", "line 2: there is no such desk: `new` has not made it\n"),
         ("read 0g\n", "", "line 1: HEX `0g` is not whole bytes in hex, nor `-`\n"),
         ("mark 1 0 1 2 3", "", "line 1: there is no such desk: `new` has not made it\n"),
@@ -90,6 +93,11 @@ fn wrong_commands_are_told() {
         &["run", "paper.txt", "paper.txt"],
         &["draw", "--apart"],
         &["draw", "--apart", "9.9", "paper.txt"],
+        &["draw", "--why"],
+        &["draw", "--why", "3.1", "paper.txt"],
+        &["draw", "--why", "3.1,", "paper.txt"],
+        &["draw", "--why", "3.1,2.2,1.1", "paper.txt"],
+        &["draw", "--why", "3.1,9.9", "paper.txt"],
         &["bench", "--rounds", "many"],
         &["bench", "--check", "--fly"],
         &[],
@@ -103,11 +111,11 @@ fn wrong_commands_are_told() {
 #[test]
 fn help_names_every_call_and_refusal() {
     let tool = printed(&["--help"], "");
-    for command in ["run [--explain]", "draw [--apart A.N]", "bench [--check]"] {
+    for command in ["run [--explain]", "draw [--apart A.N] [--why A.N,B.M]", "bench [--check]"] {
         assert!(tool.contains(&format!("./kaungimewe {command}")), "{command}");
     }
     let help = printed(&["run", "--help"], "");
-    let calls = ["new", "mark", "receive", "hand", "hand1", "relate", "apart", "first", "frame", "list", "held"];
+    let calls = ["new", "mark", "receive", "hand", "hand1", "relate", "why", "apart", "first", "frame", "list", "held"];
     for call in calls.iter().chain(&["read", "write", "write2", "to2", "to1"]) {
         assert!(help.contains(&format!("\n  {call} ")), "{call}");
     }
@@ -125,6 +133,46 @@ fn the_picture_of_the_scenario() {
     assert_eq!(picture.matches("class=\"pair\"").count(), 3, "a line for each mark concurrent with 4.1");
     let waiting = printed(&["draw"], "new 1\nnew 2\nmark 1 0 1 0 1\nmark 1 0 1 0 1\nhand 2 1.2\n");
     assert_eq!(waiting.matches("<g class=\"waiting\">").count(), 2, "the hollow box and its sample");
+}
+
+/// How many boxes and arrows of a picture are of the chain, the sample in the legend among them.
+fn chain(picture: &str) -> (usize, usize) {
+    (picture.matches("chain\"><title>").count(), picture.matches("class=\"entry link\"").count())
+}
+
+#[test]
+fn the_picture_of_a_chain() {
+    let drawn = |why: &str| printed(&["draw", "--why", why, "paper.txt"], "");
+    let before = drawn("3.1,2.2");
+    assert_eq!(chain(&before), (4, 2));
+    for mark in ["3.1: 2000 to", "1.2: 1000 to", "2.2: 1200 to"] {
+        assert!(before.contains(&format!("<g class=\"made chain\"><title>{mark}")), "{mark}");
+    }
+    assert!(before.contains(">3.1 is before 2.2: the heavy chain of 3 marks,"));
+    let plain = printed(&["draw", "paper.txt"], "");
+    let entries = |picture: &str| picture.matches("<path class=\"entry").count();
+    assert_eq!((chain(&plain), entries(&plain)), ((0, 0), entries(&before)), "every arrow is there still");
+    assert_eq!(chain(&drawn("2.2,1.1")), (4, 2));
+    assert!(drawn("2.2,1.1").contains(">2.2 is after 1.1: the heavy chain of 3 marks,"));
+    assert_eq!(chain(&drawn("4.1,4.1")), (2, 0));
+    assert!(drawn("4.1,4.1").contains(">4.1 is the same mark as 4.1: a chain of one mark.<"));
+    let concurrent = drawn("1.2,3.2");
+    assert_eq!(chain(&concurrent), (0, 0));
+    let counts = "0 of desk 1's marks are in the past of 3.2, 1 of desk 3's in that of 1.2.";
+    assert!(concurrent.contains(&format!(">1.2 and 3.2 are concurrent: {counts}<")));
+}
+
+/// The lowest desk that has executed both marks is asked; where there is none, the tool says so. Marks of the same names
+/// at desks that are no more are not of the chain.
+#[test]
+fn the_desk_that_is_asked_for_a_chain() {
+    let script = "new 1\nnew 2\nmark 1 0 1 0 1\nmark 1 0 1 0 1\nmark 2 0 1 0 1\nhand 2 1.1\n";
+    assert_eq!(chain(&printed(&["draw", "--why", "1.1,1.2"], script)), (3, 1));
+    assert_eq!(chain(&printed(&["draw", "--why", "2.1,1.1"], script)), (0, 0));
+    assert_eq!(chain(&printed(&["draw", "--why", "5.1,1.1", "why.txt"], "")), (4, 2));
+    let output = tool(&["draw", "--why", "2.1,1.2"], script);
+    let wrong = "no desk of this script has executed both 2.1 and 1.2\n";
+    assert_eq!((text(&output.stderr), text(&output.stdout), output.status.code()), (wrong, "", Some(2)));
 }
 
 /// Of a waiting mark it is what its frame says, which edition 1 does not.

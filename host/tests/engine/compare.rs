@@ -1,24 +1,30 @@
-//! What is compared after each sequence: lists, waiting sets, stamps, past counts, relations, Apart, First apart, frames
-//! and their conversions.
+//! What is compared after each sequence: lists, waiting sets, stamps, past counts, relations, evidence, Apart, First apart,
+//! frames and their conversions.
+use std::collections::BTreeMap;
+
 use kaungimewe::peers::draws::Draws;
 use kaungimewe::peers::model::codec;
 use kaungimewe::peers::{Engine, Stamped};
-use kaungimewe::{Mark, MarkId, LARGEST_FRAME, PLACES};
+use kaungimewe::{Evidence, Mark, MarkId, Refusal, LARGEST_FRAME, PLACES};
 
 use crate::pair::{both, edition1, Pair};
 
 /// Up to so many names are asked of; of more, so many drawn ones.
 const ASKED: usize = 72;
 
+/// The same for Evidence.
+const DISPUTED: usize = 32;
+
 impl<E: Stamped> Pair<E> {
     /// Everything that can be asked of the two desks.
     pub fn compare(&self, draws: &mut Draws) {
         assert_eq!(self.engine.executed(), self.model.executed());
         assert_eq!(self.engine.waiting(), self.model.waiting());
-        assert!(self.engine.snapshot() == self.again().snapshot(), "desks with the same marks differ");
+        let before = self.engine.snapshot();
+        assert!(before == self.again().snapshot(), "desks with the same marks differ");
         let names = self.names();
-        for a in chosen(&names, draws) {
-            for b in chosen(&names, draws) {
+        for a in chosen(&names, ASKED, draws) {
+            for b in chosen(&names, ASKED, draws) {
                 assert_eq!(self.engine.relate(a, b), self.model.relate(a, b), "relate {a} {b}");
             }
             self.compare_apart(a);
@@ -28,6 +34,13 @@ impl<E: Stamped> Pair<E> {
             }
             self.compare_frame(a);
         }
+        let stamps = self.engine.executed().into_iter().map(|mark| (mark.id, mark.stamp)).collect();
+        for a in chosen(&names, DISPUTED, draws) {
+            for b in chosen(&names, DISPUTED, draws) {
+                self.compare_evidence(a, b, &stamps);
+            }
+        }
+        assert!(before == self.engine.snapshot(), "a question has changed the desk");
     }
 
     /// A fresh desk that comes by the same marks in the order of their places, and then by the waiting ones.
@@ -66,6 +79,28 @@ impl<E: Stamped> Pair<E> {
         }
     }
 
+    /// With room to spare, just enough, and one too little; and what the answer shows by the stamps alone.
+    pub fn compare_evidence(&self, a: MarkId, b: MarkId, stamps: &BTreeMap<MarkId, Vec<MarkId>>) {
+        let answer = self.evidence(a, b, stamps.len() + 1);
+        assert_eq!(answer.as_ref().map(|(evidence, _)| evidence.relation()).map_err(|r| *r), self.engine.relate(a, b));
+        let Ok((evidence, chain)) = answer else {
+            assert_eq!(self.evidence(a, b, 0), Err(Refusal::NotExecuted));
+            return;
+        };
+        if let Some(short) = chain.len().checked_sub(1) {
+            assert_eq!(self.evidence(a, b, short), Err(Refusal::OutputShort));
+        }
+        assert_eq!(self.evidence(a, b, chain.len()), Ok((evidence, chain.clone())));
+        assert!(chain.windows(2).all(|pair| stamps[&pair[1]].contains(&pair[0])), "{chain:?} is no chain");
+        let ends = chain.first().zip(chain.last());
+        match evidence {
+            Evidence::Same { length } => assert_eq!((ends, length), (Some((&a, &b)), 1)),
+            Evidence::Before { .. } => assert_eq!(ends, Some((&a, &b))),
+            Evidence::After { .. } => assert_eq!(ends, Some((&b, &a))),
+            Evidence::Concurrent { first, second } => assert!(first < a.number && second < b.number),
+        }
+    }
+
     /// Frame again writes edition 2; to edition 1, and at this desk back to 2, it is the same frame.
     fn compare_frame(&self, a: MarkId) {
         let (model, engine) = (&self.model, &self.engine);
@@ -75,11 +110,11 @@ impl<E: Stamped> Pair<E> {
     }
 }
 
-/// All names, or some drawn ones where there are many.
-fn chosen(names: &[MarkId], draws: &mut Draws) -> Vec<MarkId> {
-    if names.len() <= ASKED {
+/// All names, or so many drawn ones where there are more.
+fn chosen(names: &[MarkId], most: usize, draws: &mut Draws) -> Vec<MarkId> {
+    if names.len() <= most {
         names.to_vec()
     } else {
-        (0..ASKED).map(|_| *draws.pick(names)).collect()
+        (0..most).map(|_| *draws.pick(names)).collect()
     }
 }

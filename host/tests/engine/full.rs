@@ -2,7 +2,7 @@
 use kaungimewe::peers::draws::Draws;
 use kaungimewe::peers::model::codec;
 use kaungimewe::peers::{Engine, Stamped};
-use kaungimewe::{reader, Desk, Mark, MarkBox, MarkId, PastCount, Reception, Refusal, LARGEST_FRAME};
+use kaungimewe::{reader, Desk, Mark, MarkBox, MarkId, PastCount, Reception, Refusal, LARGEST_FRAME, PLACES};
 
 use crate::answers::Answers;
 use crate::pair::{edition1, executed, waiting, Pair};
@@ -86,6 +86,7 @@ fn every_pair_of_a_full_desk() {
     for &a in &names {
         for &b in &names {
             assert_eq!(desk.engine.relate(a, b), desk.model.relate(a, b), "relate {a} {b}");
+            assert!(desk.evidence(a, b, PLACES).is_ok(), "evidence {a} {b}");
         }
         desk.compare_apart(a);
     }

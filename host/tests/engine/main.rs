@@ -4,6 +4,7 @@ mod clicks;
 mod compare;
 mod damaged;
 mod editions;
+mod evidence;
 mod examples;
 mod first_apart;
 mod forged;

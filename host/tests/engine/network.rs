@@ -4,10 +4,13 @@ use std::collections::{BTreeMap, BTreeSet};
 
 use kaungimewe::peers::draws::Draws;
 use kaungimewe::peers::Stamped;
-use kaungimewe::{reader, Desk, Mark, MarkBox, MarkId, PastCount, Refusal, LARGEST_FRAME};
+use kaungimewe::{reader, Desk, Evidence, Mark, MarkBox, MarkId, PastCount, Refusal, LARGEST_FRAME, PLACES};
 
 use crate::answers::Answers;
 use crate::pair::{edition1, to1, Pair};
+
+/// Of each desk up to so many drawn pairs of marks have their evidence held against the history.
+const DISPUTED: usize = 40;
 
 /// The desks, the frames that Mark wrote and the converter made, and what is on its way: a desk's index and a frame's.
 struct Network<E> {
@@ -189,6 +192,9 @@ impl<E: Stamped> Network<E> {
                 assert_ne!(mark.past, PastCount::Unsaid, "an executed mark has its count");
                 self.compare_past(mark.id, mark.past, &mark.stamp, &stamps);
             }
+            for _ in 0..DISPUTED.min(executed.len()) {
+                self.compare_evidence(desk, draws.pick(&executed).id, draws.pick(&executed).id, &stamps);
+            }
             for mark in desk.engine.waiting() {
                 assert!(!self.pasts[&mark.id].is_subset(&listed), "{} waits for nothing", mark.id);
                 self.compare_past(mark.id, mark.past, &mark.stamp, &stamps);
@@ -201,6 +207,26 @@ impl<E: Stamped> Network<E> {
         assert_eq!(stamp, stamps[&id], "stamp of {id}");
         if let PastCount::Said(count) = past {
             assert_eq!(usize::from(count), self.pasts[&id].len(), "past count of {id}");
+        }
+    }
+
+    /// Evidence holds in the history: its verdict and its counts are those of the pasts, and each of its chain is the first
+    /// entry of the next that is the earlier mark or has it in its past.
+    fn compare_evidence(&self, desk: &Pair<E>, a: MarkId, b: MarkId, stamps: &BTreeMap<MarkId, Vec<MarkId>>) {
+        let (evidence, chain) = desk.evidence(a, b, PLACES).expect("both are executed");
+        let (before, after) = (self.pasts[&b].contains(&a), self.pasts[&a].contains(&b));
+        let seen = |desk: u8, by: MarkId| self.pasts[&by].iter().filter(|mark| mark.desk == desk).count() as u16;
+        let length = chain.len();
+        let expected = match (a == b, before, after) {
+            (true, false, false) => Evidence::Same { length },
+            (false, true, false) => Evidence::Before { length },
+            (false, false, true) => Evidence::After { length },
+            _ => Evidence::Concurrent { first: seen(a.desk, b), second: seen(b.desk, a) },
+        };
+        assert_eq!(evidence, expected, "evidence {a} {b}");
+        for pair in chain.windows(2) {
+            let leads = |e: &&MarkId| **e == chain[0] || self.pasts[*e].contains(&chain[0]);
+            assert_eq!(stamps[&pair[1]].iter().find(leads), Some(&pair[0]), "evidence {a} {b}: {chain:?}");
         }
     }
 

@@ -1,7 +1,7 @@
 //! An engine and the model, driven together: each answer is compared as it comes.
 use kaungimewe::peers::model::{codec, Model};
 use kaungimewe::peers::{Engine, Stamped};
-use kaungimewe::{MarkBox, Marked, Reception, Refusal, LARGEST_FRAME};
+use kaungimewe::{Evidence, MarkBox, MarkId, Marked, Reception, Refusal, LARGEST_FRAME};
 
 use crate::answers::Answers;
 
@@ -10,6 +10,9 @@ pub const FILL: u8 = 0x77;
 
 /// Bytes that are lent of: more than any call writes.
 const LENT: usize = 96;
+
+/// What lent names hold before a call.
+const NAME: MarkId = MarkId { desk: 99, number: 9 };
 
 /// A desk of the engine and the model's desk of the same number.
 pub struct Pair<E> {
@@ -60,6 +63,19 @@ impl<E: Stamped> Pair<E> {
         let found = self.same(answer, |engine| engine.receive(frame));
         assert!(known.is_none_or(|k| k == self.engine.snapshot()), "a known mark has changed the desk");
         found
+    }
+
+    /// Evidence into so many lent names: the answer and the chain. Names beyond it keep their values, one behind the lent
+    /// ones too.
+    pub fn evidence(&self, a: MarkId, b: MarkId, room: usize) -> Result<(Evidence, Vec<MarkId>), Refusal> {
+        let (mut expected, mut found) = (vec![NAME; room + 1], vec![NAME; room + 1]);
+        let answer = self.model.evidence(a, b, &mut expected[..room]);
+        assert_eq!(self.engine.evidence(a, b, &mut found[..room]), answer, "evidence {a} {b} {room}");
+        assert_eq!(found, expected, "evidence {a} {b} {room}");
+        let length = answer.map_or(0, Evidence::length);
+        assert!(found[length..].iter().all(|name| *name == NAME), "evidence {a} {b} {room} writes too much");
+        found.truncate(length);
+        answer.map(|evidence| (evidence, found))
     }
 
     /// From edition 1 to 2 into so many lent bytes: the frame.

@@ -3,9 +3,9 @@
 pub const TOOL: &str = "\
 kaungimewe: desks of the proved causality engine, at a terminal
 
-  ./kaungimewe run [--explain] [FILE]                    a script of calls, one answer a line
-  ./kaungimewe draw [--apart A.N] [FILE] > SVG           the same script as a picture
-  ./kaungimewe bench [--check] [--rounds N] [--seed S]   the engine's times beside those of two others
+  ./kaungimewe run [--explain] [FILE]                            a script of calls, one answer a line
+  ./kaungimewe draw [--apart A.N] [--why A.N,B.M] [FILE] > SVG   the same script as a picture
+  ./kaungimewe bench [--check] [--rounds N] [--seed S]           the engine's times beside those of two others
 
 FILE is a script; without it, or with -, the script is read from standard input.
 `./kaungimewe run --help` says what a script is, `draw --help` and `bench --help` what they show.
@@ -25,6 +25,8 @@ what stands behind a #.
                                          unmade where there is none
   hand1 D A.N                            as hand, with the edition 1 of that frame
   relate D A.N B.M                       same | before | after | concurrent | refused 12
+  why D A.N B.M [ROOM]                   same 1 A.N | before LENGTH A.N .. B.M | after LENGTH B.M .. A.N
+                                         | concurrent X Y           | refused C
   apart D A.N [ROOM]                     apart COUNT A.N ..         | refused C
   first D A.N E                          first N                    | refused C
   frame D A.N [LENT]                     frame SIZE HEX             | refused C
@@ -43,6 +45,10 @@ what stands behind a #.
 D and E are desks, 1 to 16. A.N is the N-th mark made at desk A. START and END are milliseconds, LOW and HIGH hertz, 32 bits
 each; a click is boxed as one instant, with START and END the same. LENT is how many bytes the call is lent to write to (the
 largest frame, 73, if left out), ROOM how many names (512).
+`why` gives what `relate` does, and what shows it: a chain of LENGTH marks from the earlier to the later one, each an entry
+of the next one's stamp. Going back from the later mark, it takes the entry of lowest desk that is the earlier mark or
+follows it. Of concurrent marks X counts the marks of desk A in the past of B.M, fewer than N, and Y those of desk B in the
+past of A.N, fewer than M.
 A frame of edition 2 says PAST, its mark's past count: the number of marks that precede the mark, 0 to 511. `mark` and
 `frame` write edition 2; `receive` takes both.
 M counts the marks that a waiting one is short of: entries of its stamp that are not executed there, and its desk's previous
@@ -60,13 +66,16 @@ before it stands.
 ";
 
 pub const DRAW: &str = "\
-./kaungimewe draw [--apart A.N] [FILE] > history.svg
+./kaungimewe draw [--apart A.N] [--why A.N,B.M] [FILE] > history.svg
 
 Draws the script that `run` answers as an SVG picture: a line for each desk, the marks executed there as boxes from left to
 right in their order, the waiting ones hollow behind them. A bold box is a mark where it was made; an arrow runs to it from
 each entry of its stamp. With --apart, mark A.N is framed, and the marks concurrent with it are hatched and joined to it by
-broken lines. A click, which has no width, has a narrow box, as wide as its name. Point at a box for its times, or a click's
-instant, its frequencies, its stamp and its past count, which is not said of a waiting mark that came in edition 1.
+broken lines. With --why, the chain that shows which of A.N and B.M precedes the other is drawn heavier: its marks where
+they were made, and the arrows between them. Concurrent marks have none; their two counts stand below. It is as the lowest
+desk answers `why` that has executed both marks at the end of the script. A click, which has no width, has a narrow box, as
+wide as its name. Point at a box for its times, or a click's instant, its frequencies, its stamp and its past count, which
+is not said of a waiting mark that came in edition 1.
 ";
 
 pub const BENCH: &str = "\

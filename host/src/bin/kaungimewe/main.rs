@@ -52,16 +52,17 @@ fn run_command(words: &[&str]) -> Result<(), String> {
 }
 
 fn draw_command(words: &[&str]) -> Result<(), String> {
-    let (mut apart, mut file) = (None, None);
+    let (mut apart, mut why, mut file) = (None, None, None);
     let mut words = words.iter();
     while let Some(word) = words.next() {
         match *word {
             "--help" | "-h" => return say(help::DRAW),
             "--apart" => apart = Some(apart_name(words.next())?),
+            "--why" => why = Some(why_names(words.next())?),
             _ => file = Some(file_name(word, file)?),
         }
     }
-    say(&draw::draw(open(file)?, apart)?)
+    say(&draw::draw(open(file)?, apart, why)?)
 }
 
 /// False where a bound was to be checked and is missed.
@@ -90,6 +91,11 @@ fn run_help() -> String {
 
 fn apart_name(word: Option<&&str>) -> Result<MarkId, String> {
     words::mark_name(word.ok_or("--apart needs a mark's name like 1.2")?)
+}
+
+fn why_names(word: Option<&&str>) -> Result<(MarkId, MarkId), String> {
+    let names = word.and_then(|w| w.split_once(',')).ok_or("--why needs the names of two marks like 1.2,3.1")?;
+    Ok((words::mark_name(names.0)?, words::mark_name(names.1)?))
 }
 
 fn count(word: Option<&&str>, option: &str) -> Result<u64, String> {

@@ -3,7 +3,7 @@ use std::collections::BTreeMap;
 use std::fmt::Write;
 
 use kaungimewe::{reader, to1, writer, LARGEST_FRAME};
-use kaungimewe::{Desk, Fields, Mark, MarkBox, MarkId, PastCount, Reception, Refusal, Relation};
+use kaungimewe::{Desk, Evidence, Fields, Mark, MarkBox, MarkId, PastCount, Reception, Refusal, Relation};
 
 use crate::script::Call;
 use crate::words::hex;
@@ -43,6 +43,7 @@ impl Room {
             Call::Hand { desk, mark } => self.hand(*desk, *mark, <[u8]>::to_vec)?,
             Call::Hand1 { desk, mark } => self.hand(*desk, *mark, edition1)?,
             Call::Relate { desk, a, b } => self.desk(*desk)?.relate(*a, *b).map(relation),
+            Call::Why { desk, a, b, room } => why(self.desk(*desk)?, *a, *b, *room),
             Call::Apart { desk, mark, room } => apart(self.desk(*desk)?, *mark, *room),
             Call::First { desk, mark, of } => self.desk(*desk)?.first_apart(*mark, *of).map(|n| format!("first {n}")),
             Call::Frame { desk, mark, lent } => {
@@ -108,6 +109,17 @@ fn relation(relation: Relation) -> String {
         Relation::Concurrent => "concurrent",
     };
     word.to_string()
+}
+
+fn why(desk: &Desk, a: MarkId, b: MarkId, room: usize) -> Answer {
+    let mut out = vec![MarkId::default(); room];
+    let evidence = desk.evidence(a, b, &mut out)?;
+    let (word, length) = (relation(evidence.relation()), evidence.length());
+    out.truncate(length);
+    Ok(match evidence {
+        Evidence::Concurrent { first, second } => format!("{word} {first} {second}"),
+        _ => names(&format!("{word} {length}"), out),
+    })
 }
 
 fn apart(desk: &Desk, mark: MarkId, room: usize) -> Answer {

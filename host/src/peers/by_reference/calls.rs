@@ -1,7 +1,8 @@
 //! The calls of the engine by reference.
 use super::{agree, false_stamp, frame, missing, ByReference, Held, Row};
 use crate::peers::{Engine, Stamped};
-use crate::{Mark, MarkBox, MarkId, Marked, PastCount, Reception, Refusal, Relation, DESKS, PLACES, WAITING};
+use crate::{Evidence, Mark, MarkBox, MarkId, Marked, PastCount, Reception, Refusal, Relation};
+use crate::{DESKS, PLACES, WAITING};
 
 impl ByReference {
     fn full(&self) -> bool {
@@ -31,6 +32,11 @@ impl ByReference {
 
     fn place(&self, id: MarkId) -> Result<usize, Refusal> {
         self.find(id.desk, id.number).ok_or(Refusal::NotExecuted)
+    }
+
+    /// The same by the index.
+    fn indexed_place(&self, id: MarkId) -> Result<usize, Refusal> {
+        self.indexed(id.desk, id.number).ok_or(Refusal::NotExecuted)
     }
 
     fn name(&self, place: usize) -> MarkId {
@@ -110,8 +116,7 @@ impl Engine for ByReference {
     }
 
     fn relate(&self, a: MarkId, b: MarkId) -> Result<Relation, Refusal> {
-        let place = |id: MarkId| self.indexed(id.desk, id.number).ok_or(Refusal::NotExecuted);
-        let (p, q) = (place(a)?, place(b)?);
+        let (p, q) = (self.indexed_place(a)?, self.indexed_place(b)?);
         Ok(if p == q {
             Relation::Same
         } else if self.precedes(p, q) {
@@ -146,6 +151,27 @@ impl Engine for ByReference {
 
 impl Stamped for ByReference {
     type Snapshot = ByReference;
+
+    fn evidence(&self, a: MarkId, b: MarkId, out: &mut [MarkId]) -> Result<Evidence, Refusal> {
+        let (p, q) = (self.indexed_place(a)?, self.indexed_place(b)?);
+        if self.concurrent(p, q) {
+            let seen = |desk: u8, by: usize| self.counts[by][usize::from(desk) - 1];
+            return Ok(Evidence::Concurrent { first: seen(a.desk, q), second: seen(b.desk, p) });
+        }
+        let after = self.precedes(q, p);
+        let (earlier, later) = if after { (q, p) } else { (p, q) };
+        let back: Vec<usize> = self.back(earlier, later).collect();
+        let length = back.len();
+        let out = out.get_mut(..length).ok_or(Refusal::OutputShort)?;
+        for (name, place) in out.iter_mut().rev().zip(back) {
+            *name = self.name(place);
+        }
+        Ok(match (p == q, after) {
+            (true, _) => Evidence::Same { length },
+            (_, false) => Evidence::Before { length },
+            (_, true) => Evidence::After { length },
+        })
+    }
 
     fn frame_again(&self, a: MarkId, out: &mut [u8]) -> Result<usize, Refusal> {
         self.write_again(self.place(a)?, out)

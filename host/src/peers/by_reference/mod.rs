@@ -1,8 +1,8 @@
 //! The proved engine's plan in plain Rust: flat arrays by place, lent and never copied, with full counts kept per mark.
 //!
 //! What the proved engine finds by following stamp entries, its trace, stands here ready in the full counts: at index
-//! d − 1 how many marks of desk d precede the mark. Their sum, the past count, is kept as well. Relate finds both marks by
-//! an index; the other calls look for a mark at all places.
+//! d − 1 how many marks of desk d precede the mark. Their sum, the past count, is kept as well. Relate and Evidence find
+//! marks by an index; the other calls look for a mark at all places.
 mod calls;
 mod frame;
 
@@ -171,5 +171,14 @@ impl ByReference {
 
     fn concurrent(&self, p: usize, q: usize) -> bool {
         p != q && !self.precedes(p, q) && !self.precedes(q, p)
+    }
+
+    /// The places of the chain from the later mark back to the earlier one, each the entry of lowest desk that leads on.
+    fn back(&self, earlier: usize, later: usize) -> impl Iterator<Item = usize> + '_ {
+        let leads = move |&e: &usize| e == earlier || self.precedes(earlier, e);
+        std::iter::successors(Some(later), move |&at| {
+            let entries = (1..).zip(&self.stamps[at]).filter_map(|(desk, &number)| self.indexed(desk, number));
+            entries.filter(|_| at != earlier).find(leads)
+        })
     }
 }

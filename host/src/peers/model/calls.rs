@@ -3,7 +3,7 @@ use std::collections::BTreeMap;
 
 use super::{codec, same, Model};
 use crate::peers::{Engine, Stamped};
-use crate::{Mark, MarkBox, MarkId, Marked, PastCount, Reception, Refusal, Relation};
+use crate::{Evidence, Mark, MarkBox, MarkId, Marked, PastCount, Reception, Refusal, Relation};
 
 impl Model {
     /// 7: of this desk and not yet made.
@@ -110,6 +110,27 @@ impl Engine for Model {
 
 impl Stamped for Model {
     type Snapshot = (Vec<Mark>, Vec<Mark>);
+
+    fn evidence(&self, a: MarkId, b: MarkId, out: &mut [MarkId]) -> Result<Evidence, Refusal> {
+        let (first, second) = (self.find(a)?, self.find(b)?);
+        let relation = self.relate(a, b)?;
+        let chain = match relation {
+            Relation::Same | Relation::Before => self.chain(a, second),
+            Relation::After => self.chain(b, first),
+            Relation::Concurrent => {
+                let (first, second) = (self.seen(a.desk, second), self.seen(b.desk, first));
+                assert!(first < a.number && second < b.number, "neither of {a} and {b} is in the other's past");
+                return Ok(Evidence::Concurrent { first, second });
+            }
+        };
+        let length = chain.len();
+        out.get_mut(..length).ok_or(Refusal::OutputShort)?.copy_from_slice(&chain);
+        Ok(match relation {
+            Relation::Same => Evidence::Same { length },
+            Relation::Before => Evidence::Before { length },
+            _ => Evidence::After { length },
+        })
+    }
 
     fn frame_again(&self, a: MarkId, out: &mut [u8]) -> Result<usize, Refusal> {
         codec::put(&codec::frame_of(&self.find(a)?.mark), out)

@@ -5,6 +5,7 @@
 //! engine the names of things and no code; it is written to be read and not to be fast.
 mod calls;
 pub mod codec;
+mod evidence;
 mod past;
 
 use std::collections::{BTreeMap, BTreeSet};

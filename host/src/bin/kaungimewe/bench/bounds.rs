@@ -12,6 +12,8 @@ enum Beside {
     ByReference,
     /// The same call of (b).
     Clocks,
+    /// Three times its own Relate of the same pairs, and the chain: one more for each mark of it.
+    RelateAndChain,
     /// A junk frame before the desk stayed in place.
     OldJunk,
 }
@@ -24,12 +26,13 @@ pub struct Bound {
 }
 
 /// Every bound.
-pub const BOUNDS: [Bound; 7] = [
+pub const BOUNDS: [Bound; 8] = [
     Bound { call: Call::Receive, most: 0.8, beside: Beside::ByReference },
     Bound { call: Call::Mark, most: 0.3, beside: Beside::ByReference },
     Bound { call: Call::Relate, most: 0.6, beside: Beside::Clocks },
     Bound { call: Call::Apart, most: 1.5, beside: Beside::ByReference },
     Bound { call: Call::FirstApart, most: 1.0, beside: Beside::ByReference },
+    Bound { call: Call::Evidence, most: 1.0, beside: Beside::RelateAndChain },
     Bound { call: Call::FrameAgain, most: 1.5, beside: Beside::ByReference },
     Bound { call: Call::JunkFrame, most: 0.1, beside: Beside::OldJunk },
 ];
@@ -41,6 +44,7 @@ impl Bound {
         let beside = match self.beside {
             Beside::ByReference => medians.by_reference[call],
             Beside::Clocks => medians.clocks[call],
+            Beside::RelateAndChain => (3.0 + medians.chain) * medians.whole()[Call::Relate as usize],
             Beside::OldJunk => medians.by_reference[Call::Receive as usize] * OLD_JUNK_RATIO,
         };
         medians.whole()[call] / beside
@@ -57,6 +61,7 @@ impl Bound {
         let beside = match self.beside {
             Beside::ByReference => "(a)",
             Beside::Clocks => "(b)",
+            Beside::RelateAndChain => "(3 x Relate, and one a mark of the chain)",
             Beside::OldJunk => "its cost when calls copied the desk",
         };
         let verdict = if self.is_held(ratio) { "held" } else { "missed" };

@@ -9,7 +9,7 @@ use kaungimewe::{MarkId, DESKS, LARGEST_FRAME, PLACES};
 use super::junk::junk;
 use super::load::{Load, Step};
 
-/// The calls that are timed. The last two are of the documents' frames, and only engines that have these are asked.
+/// The calls that are timed. The last three are of the documents' frames, and only engines that have these are asked.
 #[derive(Clone, Copy)]
 pub enum Call {
     Receive,
@@ -17,13 +17,14 @@ pub enum Call {
     Relate,
     Apart,
     FirstApart,
+    Evidence,
     FrameAgain,
     JunkFrame,
 }
 
 /// Their names, in the same order.
-pub const CALLS: [&str; 7] =
-    ["Receive", "Mark", "Relate, all pairs", "Apart", "First apart", "Frame again", "Junk frame"];
+pub const CALLS: [&str; 8] =
+    ["Receive", "Mark", "Relate, all pairs", "Apart", "First apart", "Evidence, all", "Frame again", "Junk frame"];
 
 /// Calls that are too short to be timed alone: so many runs, and so many passes over the junk frames in each.
 const RUNS: usize = 20;
@@ -38,14 +39,15 @@ pub struct Samples {
     pub run: usize,
 }
 
-/// What an engine did: its times in the order of `CALLS`, the bytes of its frames, and the sums of what all engines are
-/// asked and of what only those with the documents' frames are.
+/// What an engine did: its times in the order of `CALLS`, the bytes of its frames, the sums of what all engines are asked
+/// and of what only those with the documents' frames are, and the marks of the chains of all pairs.
 #[derive(Default)]
 pub struct Measured {
     pub samples: Vec<Samples>,
     pub bytes: usize,
     pub sum: u64,
     pub stamped_sum: u64,
+    pub chained: usize,
 }
 
 /// An engine's first desk after a history, the names of all marks, and their frames.
@@ -81,6 +83,7 @@ pub fn measure_stamped<E: Stamped>(load: &Load) -> Measured {
     let mut measured = Measured::default();
     let mut replayed = replay::<E>(load, &mut measured);
     query(&replayed, &mut measured);
+    evidence(&replayed, &mut measured);
     frames_again(&replayed, &mut measured);
     receive_junk(&mut replayed, &mut measured);
     measured
@@ -121,6 +124,17 @@ fn query<E: Engine>(Replayed { desk, names, .. }: &Replayed<E>, measured: &mut M
     }
     measured.samples.extend([relate, apart, first]);
     measured.sum = sum;
+}
+
+/// Evidence, of the pairs that Relate was asked of.
+fn evidence<E: Stamped>(Replayed { desk, names, .. }: &Replayed<E>, measured: &mut Measured) {
+    let mut pairs = Samples::of(names.len());
+    let mut out = vec![MarkId::default(); PLACES];
+    for &a in names {
+        let mut length = |&b| desk.evidence(a, b, black_box(&mut out)).expect("executed").length();
+        measured.chained += pairs.time(|| names.iter().map(&mut length).sum::<usize>());
+    }
+    measured.samples.push(pairs);
 }
 
 /// Frame again, of all marks in each run.

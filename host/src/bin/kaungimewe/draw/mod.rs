@@ -2,6 +2,7 @@
 mod layout;
 mod record;
 mod svg;
+mod why;
 
 use std::collections::BTreeSet;
 use std::io::BufRead;
@@ -11,9 +12,10 @@ use kaungimewe::{MarkId, PLACES};
 use crate::room::Room;
 use crate::script::each_call;
 use record::Record;
+use why::Why;
 
-/// The picture of a script, with the marks concurrent with `apart` highlighted.
-pub fn draw(input: impl BufRead, apart: Option<MarkId>) -> Result<String, String> {
+/// The picture of a script, with the marks concurrent with `apart` and the chain between the two of `why` highlighted.
+pub fn draw(input: impl BufRead, apart: Option<MarkId>, why: Option<(MarkId, MarkId)>) -> Result<String, String> {
     let mut room = Room::default();
     let mut record = Record::default();
     each_call(input, |call| {
@@ -22,7 +24,8 @@ pub fn draw(input: impl BufRead, apart: Option<MarkId>) -> Result<String, String
         Ok(())
     })?;
     let pairs = apart.map(|mark| Ok::<_, String>((mark, concurrent(&room, mark)?))).transpose()?;
-    Ok(svg::picture(&layout::lay_out(record), pairs))
+    let why = why.map(|names| Why::ask(&room, names)).transpose()?;
+    Ok(svg::picture(&layout::lay_out(record), pairs, why))
 }
 
 /// The marks concurrent with a given one, at any desk that has executed it.

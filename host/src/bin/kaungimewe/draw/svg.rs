@@ -5,12 +5,15 @@ use std::fmt::Write;
 use kaungimewe::{MarkId, PastCount};
 
 use super::layout::{Arrow, Kind, Layout, Shown};
+use super::why::Why;
 
 const LEFT: i64 = 96;
 const TOP: i64 = 64;
 const COLUMN: i64 = 70;
 const LINE: i64 = 92;
 const LEGEND: i64 = 38;
+/// What a line of notes takes.
+const NOTE: i64 = 18;
 /// Samples in a line of the legend.
 const SAMPLES: usize = 3;
 
@@ -40,6 +43,16 @@ text { font-family: Helvetica, Arial, sans-serif; font-size: 13px; fill: black }
 </defs>
 "##;
 
+/// What a picture with a chain has besides.
+const BOLD: &str = r##"<style>
+.chain .box { stroke-width: 5 }
+.link { stroke-width: 3.5; marker-end: url(#bold) }
+</style>
+<defs>
+<marker id="bold" viewBox="0 0 10 10" refX="9" refY="5" markerWidth="3.5" markerHeight="3.5" orient="auto"><path d="M 0 1 L 10 5 L 0 9 z"/></marker>
+</defs>
+"##;
+
 /// The middle of a box.
 fn middle(shown: &Shown) -> (i64, i64) {
     (LEFT + COLUMN / 2 + COLUMN * shown.column as i64, TOP + LINE * shown.line as i64)
@@ -62,28 +75,29 @@ fn least_width(name: &str) -> i64 {
 }
 
 /// The whole picture.
-pub fn picture(layout: &Layout, pairs: Pairs) -> String {
+pub fn picture(layout: &Layout, pairs: Pairs, why: Option<Why>) -> String {
     let width = (LEFT + COLUMN * layout.columns as i64 + 24).max(620);
     let below = TOP + LINE * layout.desks.len() as i64;
-    let samples = samples(layout, &pairs);
-    let height = below + LEGEND * (samples.len().div_ceil(SAMPLES) as i64 + 1);
+    let samples = samples(layout, &pairs, &why);
+    let height = below + LEGEND * (samples.len().div_ceil(SAMPLES) as i64 + 1) + why.as_ref().map_or(0, |_| NOTE);
+    let bold = if why.as_ref().is_some_and(Why::has_chain) { BOLD } else { "" };
     let mut svg = format!(
         "<svg xmlns=\"http://www.w3.org/2000/svg\" width=\"{width}\" height=\"{height}\" viewBox=\"0 0 {width} {height}\">\n\
-         <title>History of {} desks</title>\n{HEAD}<rect width=\"100%\" height=\"100%\" fill=\"white\"/>\n",
+         <title>History of {} desks</title>\n{HEAD}{bold}<rect width=\"100%\" height=\"100%\" fill=\"white\"/>\n",
         layout.desks.len()
     );
     for (line, desk) in layout.desks.iter().enumerate() {
         svg += &desk_line(line, *desk, width);
     }
     for arrow in &layout.arrows {
-        svg += &arrow_path(layout, arrow);
+        svg += &arrow_path(layout, arrow, &why);
     }
     svg += &pair_paths(layout, &pairs);
     for shown in &layout.shown {
         let (x, y) = middle(shown);
-        svg += &mark_box(x, y, shown, &pairs);
+        svg += &mark_box(x, y, shown, &pairs, &why);
     }
-    svg += &legend(below, &samples);
+    svg += &legend(below, &samples, &why);
     svg + "</svg>\n"
 }
 
@@ -117,11 +131,14 @@ fn curve(from: &Shown, to: &Shown, slot: (usize, usize), gap: i64) -> String {
     format!("M {x} {start} C {x} {bend} {u} {bend} {u} {end}")
 }
 
-fn arrow_path(layout: &Layout, arrow: &Arrow) -> String {
+fn arrow_path(layout: &Layout, arrow: &Arrow, why: &Option<Why>) -> String {
     let to = &layout.shown[arrow.to];
     if let Some(from) = arrow.from {
-        let path = curve(&layout.shown[from], to, arrow.slot, 2);
-        return format!("<path class=\"entry\" d=\"{path}\"/>\n");
+        let from = &layout.shown[from];
+        let joins = why.as_ref().is_some_and(|w| w.joins(&from.mark, &to.mark));
+        let (class, gap) = if joins { ("entry link", 4) } else { ("entry", 2) };
+        let path = curve(from, to, arrow.slot, gap);
+        return format!("<path class=\"{class}\" d=\"{path}\"/>\n");
     }
     let ((x, y), (_, h)) = (middle(to), half(to));
     let (x, top, end) = (x + shift(arrow.slot, to), y - h - 20, y - h - 2);
@@ -147,13 +164,14 @@ fn pair_paths(layout: &Layout, pairs: &Pairs) -> String {
     paths
 }
 
-fn mark_box(x: i64, y: i64, shown: &Shown, pairs: &Pairs) -> String {
+fn mark_box(x: i64, y: i64, shown: &Shown, pairs: &Pairs, why: &Option<Why>) -> String {
     let mark = &shown.mark;
     let (chosen, apart) = match pairs {
         None => (false, false),
         Some((name, others)) => (mark.id == *name, others.contains(&mark.id)),
     };
-    let class = class_of(shown.kind, apart);
+    let chain = shown.first && why.as_ref().is_some_and(|w| w.has(mark));
+    let class = class_of(shown.kind, apart, chain);
     labelled_box(x, y, half(shown), &class, &mark.id.to_string(), &title(shown), chosen)
 }
 
@@ -171,13 +189,13 @@ fn title(shown: &Shown) -> String {
     format!("{}: {times} ms, {} to {} Hz; entries:{stamp}; past count: {past}", mark.id, b.low, b.high)
 }
 
-fn class_of(kind: Kind, apart: bool) -> String {
+fn class_of(kind: Kind, apart: bool, chain: bool) -> String {
     let kind = match kind {
         Kind::Made => "made",
         Kind::Executed => "executed",
         Kind::Waiting => "waiting",
     };
-    format!("{kind}{}", if apart { " apart" } else { "" })
+    format!("{kind}{}{}", if apart { " apart" } else { "" }, if chain { " chain" } else { "" })
 }
 
 fn labelled_box(x: i64, y: i64, (w, h): (i64, i64), class: &str, name: &str, title: &str, chosen: bool) -> String {
@@ -197,7 +215,7 @@ fn labelled_box(x: i64, y: i64, (w, h): (i64, i64), class: &str, name: &str, tit
 type Sample = (&'static str, i64, String, bool);
 
 /// The sorts of boxes in the picture.
-fn samples(layout: &Layout, pairs: &Pairs) -> Vec<Sample> {
+fn samples(layout: &Layout, pairs: &Pairs, why: &Option<Why>) -> Vec<Sample> {
     let mut samples: Vec<Sample> = vec![
         ("made", 20, "made here".into(), false),
         ("executed", 20, "executed here".into(), false),
@@ -207,14 +225,17 @@ fn samples(layout: &Layout, pairs: &Pairs) -> Vec<Sample> {
         samples.push(("made", 20, format!("mark {mark}"), true));
         samples.push(("made apart", 20, format!("concurrent with {mark}"), false));
     }
+    if why.as_ref().is_some_and(Why::has_chain) {
+        samples.push(("made chain", 20, "in the chain".into(), false));
+    }
     if layout.shown.iter().any(is_click) {
         samples.push(("executed", least_width("a.n"), "a click".into(), false));
     }
     samples
 }
 
-/// A sample of each sort of box, with what it means.
-fn legend(y: i64, samples: &[Sample]) -> String {
+/// A sample of each sort of box, with what it means, and the notes.
+fn legend(y: i64, samples: &[Sample], why: &Option<Why>) -> String {
     let mut legend = String::new();
     let mut under = y;
     for (i, (class, width, meaning, chosen)) in samples.iter().enumerate() {
@@ -224,5 +245,9 @@ fn legend(y: i64, samples: &[Sample]) -> String {
         let _ = writeln!(legend, "<text x=\"{}\" y=\"{}\">{meaning}</text>", x + 32, under + 5);
     }
     let note = "Each desk from left to right in its own order. An arrow runs from each entry of a stamp to its mark.";
-    legend + &format!("<text class=\"note\" x=\"20\" y=\"{}\">{note}</text>\n", under + 36)
+    let notes = std::iter::once(note.to_string()).chain(why.as_ref().map(Why::sentence));
+    for (y, note) in (under + 36..).step_by(NOTE as usize).zip(notes) {
+        let _ = writeln!(legend, "<text class=\"note\" x=\"20\" y=\"{y}\">{note}</text>");
+    }
+    legend
 }
