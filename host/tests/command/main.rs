@@ -5,8 +5,17 @@ use std::process::{Command, Output, Stdio};
 const EXAMPLES: &str = concat!(env!("CARGO_MANIFEST_DIR"), "/../examples");
 
 /// The calls that the benchmark times and bounds.
-const TIMED: [&str; 8] =
-    ["Receive", "Mark", "Relate, all pairs", "Apart", "First apart", "Evidence, all", "Frame again", "Junk frame"];
+const TIMED: [&str; 9] = [
+    "Receive",
+    "Mark",
+    "Relate, all pairs",
+    "Apart",
+    "First apart",
+    "Evidence, apart",
+    "Evidence, chained",
+    "Frame again",
+    "Junk frame",
+];
 
 /// Runs the tool in the folder of examples, with a script on standard input.
 fn tool(words: &[&str], script: &str) -> Output {

@@ -12,7 +12,9 @@ enum Beside {
     ByReference,
     /// The same call of (b).
     Clocks,
-    /// Three times its own Relate of the same pairs, and the chain: one more for each mark of it.
+    /// Three times its own Relate of the same pairs, which have no chain.
+    Relate,
+    /// The same and the chain: its own Relate of each two neighbours in it.
     RelateAndChain,
     /// A junk frame before the desk stayed in place.
     OldJunk,
@@ -26,13 +28,14 @@ pub struct Bound {
 }
 
 /// Every bound.
-pub const BOUNDS: [Bound; 8] = [
+pub const BOUNDS: [Bound; 9] = [
     Bound { call: Call::Receive, most: 0.8, beside: Beside::ByReference },
     Bound { call: Call::Mark, most: 0.3, beside: Beside::ByReference },
     Bound { call: Call::Relate, most: 0.6, beside: Beside::Clocks },
     Bound { call: Call::Apart, most: 1.5, beside: Beside::ByReference },
     Bound { call: Call::FirstApart, most: 1.0, beside: Beside::ByReference },
-    Bound { call: Call::Evidence, most: 1.0, beside: Beside::RelateAndChain },
+    Bound { call: Call::EvidenceApart, most: 1.0, beside: Beside::Relate },
+    Bound { call: Call::EvidenceChained, most: 1.0, beside: Beside::RelateAndChain },
     Bound { call: Call::FrameAgain, most: 1.5, beside: Beside::ByReference },
     Bound { call: Call::JunkFrame, most: 0.1, beside: Beside::OldJunk },
 ];
@@ -41,10 +44,12 @@ impl Bound {
     /// The ratio that is bounded.
     pub fn ratio(&self, medians: &Medians) -> f64 {
         let call = self.call as usize;
+        let own = |call: Call| medians.whole()[call as usize];
         let beside = match self.beside {
             Beside::ByReference => medians.by_reference[call],
             Beside::Clocks => medians.clocks[call],
-            Beside::RelateAndChain => (3.0 + medians.chain) * medians.whole()[Call::Relate as usize],
+            Beside::Relate => 3.0 * own(Call::RelateApart),
+            Beside::RelateAndChain => 3.0 * own(Call::RelateChained) + own(Call::RelateLinks),
             Beside::OldJunk => medians.by_reference[Call::Receive as usize] * OLD_JUNK_RATIO,
         };
         medians.whole()[call] / beside
@@ -61,7 +66,8 @@ impl Bound {
         let beside = match self.beside {
             Beside::ByReference => "(a)",
             Beside::Clocks => "(b)",
-            Beside::RelateAndChain => "(3 x Relate, and one a mark of the chain)",
+            Beside::Relate => "3 Relates of the same pairs",
+            Beside::RelateAndChain => "(3 Relates of the same pairs, and Relate of each link)",
             Beside::OldJunk => "its cost when calls copied the desk",
         };
         let verdict = if self.is_held(ratio) { "held" } else { "missed" };

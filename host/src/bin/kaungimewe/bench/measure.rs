@@ -9,7 +9,7 @@ use kaungimewe::{MarkId, DESKS, LARGEST_FRAME, PLACES};
 use super::junk::junk;
 use super::load::{Load, Step};
 
-/// The calls that are timed. The last three are of the documents' frames, and only engines that have these are asked.
+/// The calls that are timed. The last seven are of the documents' frames, and only engines that have these are asked.
 #[derive(Clone, Copy)]
 pub enum Call {
     Receive,
@@ -17,18 +17,39 @@ pub enum Call {
     Relate,
     Apart,
     FirstApart,
-    Evidence,
+    EvidenceApart,
+    RelateApart,
+    EvidenceChained,
+    RelateChained,
+    RelateLinks,
     FrameAgain,
     JunkFrame,
 }
 
 /// Their names, in the same order.
-pub const CALLS: [&str; 8] =
-    ["Receive", "Mark", "Relate, all pairs", "Apart", "First apart", "Evidence, all", "Frame again", "Junk frame"];
+pub const CALLS: [&str; 12] = [
+    "Receive",
+    "Mark",
+    "Relate, all pairs",
+    "Apart",
+    "First apart",
+    "Evidence, apart",
+    "Relate, apart",
+    "Evidence, chained",
+    "Relate, chained",
+    "Relate, links",
+    "Frame again",
+    "Junk frame",
+];
 
 /// Calls that are too short to be timed alone: so many runs, and so many passes over the junk frames in each.
 const RUNS: usize = 20;
 const PASSES: usize = 100;
+
+/// The few pairs of a mark are asked so many times in a run.
+const REPEATS: usize = 4;
+
+type Pair = (MarkId, MarkId);
 
 /// Bytes for the largest frame of any engine.
 const ROOM: usize = if FRAME > LARGEST_FRAME { FRAME } else { LARGEST_FRAME };
@@ -39,15 +60,14 @@ pub struct Samples {
     pub run: usize,
 }
 
-/// What an engine did: its times in the order of `CALLS`, the bytes of its frames, the sums of what all engines are asked
-/// and of what only those with the documents' frames are, and the marks of the chains of all pairs.
+/// What an engine did: its times in the order of `CALLS`, the bytes of its frames, and the sums of what all engines are
+/// asked and of what only those with the documents' frames are.
 #[derive(Default)]
 pub struct Measured {
     pub samples: Vec<Samples>,
     pub bytes: usize,
     pub sum: u64,
     pub stamped_sum: u64,
-    pub chained: usize,
 }
 
 /// An engine's first desk after a history, the names of all marks, and their frames.
@@ -67,6 +87,17 @@ impl Samples {
         let answer = black_box(act());
         self.times.push(start.elapsed().as_nanos() as f64);
         answer
+    }
+
+    /// A run over some pairs, repeated, as a time for each of so many; nothing where there are none.
+    fn mean(&mut self, pairs: &[Pair], among: usize, mut act: impl FnMut(&Pair) -> u64) -> u64 {
+        if among == 0 {
+            return 0;
+        }
+        let start = Instant::now();
+        let sum = (0..REPEATS).map(|_| black_box(pairs).iter().map(&mut act).sum::<u64>()).sum();
+        self.times.push(start.elapsed().as_nanos() as f64 / (REPEATS * among) as f64);
+        black_box(sum)
     }
 }
 
@@ -126,15 +157,28 @@ fn query<E: Engine>(Replayed { desk, names, .. }: &Replayed<E>, measured: &mut M
     measured.sum = sum;
 }
 
-/// Evidence, of the pairs that Relate was asked of.
+/// Evidence of concurrent pairs and of those with a chain, each beside Relate of the same pairs; and Relate of each two
+/// neighbours in the chains. Of each mark the mean over its pairs.
 fn evidence<E: Stamped>(Replayed { desk, names, .. }: &Replayed<E>, measured: &mut Measured) {
-    let mut pairs = Samples::of(names.len());
+    let mut samples = [(); 5].map(|()| Samples::of(1));
+    let [evidence_apart, relate_apart, evidence_chained, relate_chained, links] = &mut samples;
     let mut out = vec![MarkId::default(); PLACES];
+    let relate = |&(a, b): &Pair| desk.relate(a, b).expect("executed") as u64;
     for &a in names {
-        let mut length = |&b| desk.evidence(a, b, black_box(&mut out)).expect("executed").length();
-        measured.chained += pairs.time(|| names.iter().map(&mut length).sum::<usize>());
+        let (mut apart, mut chained, mut linked) = (Vec::new(), Vec::new(), Vec::new());
+        for &b in names {
+            let length = desk.evidence(a, b, &mut out).expect("executed").length();
+            linked.extend(out[..length].windows(2).map(|link| (link[0], link[1])));
+            if length == 0 { &mut apart } else { &mut chained }.push((a, b));
+        }
+        let mut length = |&(a, b): &Pair| desk.evidence(a, b, black_box(&mut out)).expect("executed").length() as u64;
+        measured.stamped_sum += evidence_apart.mean(&apart, apart.len(), &mut length);
+        measured.stamped_sum += relate_apart.mean(&apart, apart.len(), relate);
+        measured.stamped_sum += evidence_chained.mean(&chained, chained.len(), &mut length);
+        measured.stamped_sum += relate_chained.mean(&chained, chained.len(), relate);
+        measured.stamped_sum += links.mean(&linked, chained.len(), relate);
     }
-    measured.samples.push(pairs);
+    measured.samples.extend(samples);
 }
 
 /// Frame again, of all marks in each run.

@@ -18,16 +18,15 @@ const SIZES: [usize; 3] = [125, 250, 500];
 /// A check runs the benchmark so many times.
 const CHECKED: usize = 3;
 
-/// Nanoseconds a call, in the order of `CALLS`; the clocks lack the last three.
+/// Nanoseconds a call, in the order of `CALLS`; the clocks lack the last seven.
 type Times = Vec<f64>;
 
-/// What is reported: medians over all rounds, the bytes of all frames, and the mean length of a chain over all pairs.
+/// What is reported: medians over all rounds, and the bytes of all frames.
 struct Medians {
     proved: [Times; SIZES.len()],
     by_reference: Times,
     clocks: Times,
     bytes: usize,
-    chain: f64,
 }
 
 impl Medians {
@@ -67,16 +66,14 @@ fn run(rounds: usize, loads: &[Load; SIZES.len()]) -> Medians {
         by_reference.push(measure_stamped::<ByReference>(whole));
         clocks.push(measure::<ClockDesk>(whole));
     }
-    let Measured { bytes, sum, stamped_sum, chained, .. } = proved[SIZES.len() - 1][0];
+    let Measured { bytes, sum, stamped_sum, .. } = proved[SIZES.len() - 1][0];
     assert_eq!([by_reference[0].sum, clocks[0].sum], [sum; 2], "the engines answer differently");
     assert_eq!(by_reference[0].stamped_sum, stamped_sum, "the engines answer differently");
-    assert_eq!(by_reference[0].chained, chained, "the engines answer differently");
     Medians {
         proved: proved.map(|rounds| medians(&rounds)),
         by_reference: medians(&by_reference),
         clocks: medians(&clocks),
         bytes,
-        chain: chained as f64 / (whole.marks * whole.marks) as f64,
     }
 }
 
