@@ -156,9 +156,9 @@ pub fn related(answer: Related) {
 // A mark of a list.
 fn listed(list: Listed, i: usize) {
     if i < PLACES {
-        let m = pairs::pair_at(list, i);
-        let n = m.number;
-        mark(b" ", m.desk, n.0);
+        let d = list.desks[i];
+        let n = list.numbers[i];
+        mark(b" ", d, n);
     }
 }
 

@@ -3,7 +3,7 @@ ghost use mathlib.Core.Path.{_≡_};
 ghost use Prim.Native.Nat.{_<_, _≤_};
 ghost use lib.ListN.{length};
 ghost use Rattle.causality.specs.Marks.{places};
-ghost use Rattle.pairs.specs.Pairs.{pairAt, filled};
+ghost use Rattle.pairs.specs.Pairs.{filled};
 use causality::MarkId;
 use frame::Number;
 use rows::PLACES;
@@ -15,16 +15,6 @@ pub struct Listed {
     pub count: usize,
 }
 
-pub fn pair_at(list: Listed, i: usize) -> MarkId
-    requires { ⌜ i < places ⌝ }
-    ensures { λ r. ⌜ r ≡ pairAt list i ⌝ }
-{
-    MarkId {
-        desk: list.desks[i],
-        number: Number(list.numbers[i]),
-    }
-}
-
 // The first pairs of out are those of the list; pairs beyond keep their values.
 pub fn fill(out: &mut [MarkId], list: Listed) -> usize
     requires { ⌜ (list .count ≤ length (now out)) × (list .count ≤ places) ⌝ }
@@ -32,7 +22,10 @@ pub fn fill(out: &mut [MarkId], list: Listed) -> usize
 {
     let mut i = 0;
     while i < list.count {
-        out[i] = pair_at(list, i);
+        out[i] = MarkId {
+            desk: list.desks[i],
+            number: Number(list.numbers[i]),
+        };
         i += 1;
     }
     i
