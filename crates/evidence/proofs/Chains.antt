@@ -1,7 +1,7 @@
 -- The chain by places: it goes back by one step, and ends at the earlier mark. n: how many desks. Assumes nothing.
 use Prim.Native.Nat.{_+_, _-_, _*_, _<_, _≤_, suc, zero, ℕ}
-use lib.Dec.{T, eqb, leb, leb→le, ltb, ltb→lt, nltb→le, not-T}
-use lib.ListN.{getD, length}
+use lib.Dec.{T, leb, leb→le, ltb, ltb→lt, nltb→le, not-T}
+use lib.ListN.{getD}
 use mathlib.Core.Bool.{Bool, _&&_, _||_, false, true}
 use mathlib.Core.List.{List, [], _∷_}
 use mathlib.Core.Logic.{inl, inr}
@@ -13,8 +13,8 @@ use Rattle.frame.specs.Mark.{MarkId}
 use Rattle.causality.specs.Evidence.{entryTowards, goingBack}
 use Rattle.causality.specs.Marks.{has, same}
 use Rattle.causality.specs.State.{Mark, precedes}
-use Rattle.causality.proofs.Apart.{reached-by-row, reaches, someFollower}
-use Rattle.causality.proofs.Lists.{any-cong, any-find}
+use Rattle.causality.proofs.Apart.{reaches}
+use Rattle.causality.proofs.Lists.{any-find}
 use Rattle.causality.proofs.Logic.{T→eq, and-fst, and-snd, nT→eq, or-cases, same-refl, same→eq, split}
 use Rattle.causality.proofs.Reach.{Sound, not-new, precedes-at}
 use Rattle.causality.proofs.RowLaws.{entriesOfRow, show, shown}
@@ -22,7 +22,7 @@ use Rattle.rows.specs.View.{Carried, markAt, nameAt, rowAt, rowFn, view}
 use Rattle.rows.proofs.Arrays.{follows-below, sound-below}
 use Rattle.rows.proofs.Places.{has-at, ids-names, not-before, precedes-no-earlier, precedes-there}
 use Rattle.concurrent.specs.Steps.{Tells, isOrFollows}
-use Rattle.concurrent.proofs.ByPlaces.{follows-there, name-place, same-place}
+use Rattle.concurrent.proofs.ByPlaces.{follows-there, name-place}
 use Rattle.evidence.specs.Steps.{LowestReached, PlaceBelow, reachedAt}
 use Rattle.evidence.proofs.LowestEntry.{lowest-at, lowest-none}
 
@@ -67,10 +67,6 @@ module _ (n : ℕ) (ds ns : List ℕ) (bs : ℕ → Carried) (ss : List ℕ) whe
       | inr u ↦ nltb→le r p u
     ]
 
-    -- From a listed mark there is a chain, if only of that mark.
-    pub back-some : (a : MarkId) (q : ℕ) → q < count → 0 < length (goingBack (view n count ds ns bs ss) a (name q))
-    back-some a q h = rw (back-there count q s h a ∙ back-new q a (entryTowards (l q) a (entriesOfRow n (rowAt n ss q))) refl) (omega arith)
-
     -- At the earlier mark the chain ends.
     pub back-end : (p : ℕ) → p < count → goingBack (view n count ds ns bs ss) (name p) (name p) ≡ name p ∷ []
     back-end p h = back-there count p s h (name p) ∙ back-new p (name p) none (lowest-none (isOrFollows (l p) (name p)) (entriesOfRow n (rowAt n ss p)) (λ e t.
@@ -85,15 +81,6 @@ module _ (n : ℕ) (ds ns : List ℕ) (bs : ℕ → Carried) (ss : List ℕ) whe
           let k = x .1 in
           ap (isOrFollows (l at) (name p)) (sym (x .2)) ∙ follows-there n ds ns bs ss count s at (x .0) (omega arith) (x .1) (name p) ∙ ap (isOrFollows (l count) (name p)) (x .2)
           ∙ w .tells count hc (omega arith) bs s e (rw (← ids-names n ds ns bs ss q, ← x .2) (has-at n ds ns bs ss q (x .0) (omega arith)))
-
-      -- Is the mark the earlier one, or does it follow it? By the row.
-      pub follows-by-row : isOrFollows (view n count ds ns bs ss) (name p) (name at) ≡ (eqb p at || someFollower n (rowFn first) (rowAt n ss at))
-      unfolding view
-      follows-by-row =
-          let x = sym (same-place n ds ns bs ss count p at s hc (omega arith)) in
-          let y = precedes-there n ds ns bs ss count at s (omega arith) (name p) ∙ precedes-at (markAt n ds ns bs ss at) (l at) (name p) (name at) (same-refl (name at))
-          ∙ any-cong (isOrFollows (l at) (name p)) (reaches (rowFn first)) (entriesOfRow n (rowAt n ss at)) entry-test ∙ reached-by-row n (rowFn first) (rowAt n ss at) in
-          λ i. x i || y i
 
     module _ (p q at : ℕ) (first : List ℕ) (hp : p < at) (ha : at ≤ q) (hq : q < count) (w : Tells n ds ns ss p q first) (j : ℕ) (low : LowestReached n first ss at j)
         (t : T (isOrFollows (view n count ds ns bs ss) (name p) (name at))) where

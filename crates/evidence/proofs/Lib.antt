@@ -3,6 +3,5 @@ pub mod LowestEntry
 pub mod Chains
 pub mod Reversing
 pub mod Walk
-pub mod Betweens
 pub mod Verdicts
 pub mod Ways

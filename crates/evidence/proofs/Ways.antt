@@ -1,16 +1,15 @@
 -- Evidence by its ways out: a mark is at no place, the marks are apart, the lent pairs are too few, or the chain is listed. Assumes nothing.
-use Prim.Native.Nat.{_<_, _≤_, ℕ}
-use borrow.Author.Tests.{le-ltb, lt-ltb, ne-eqb}
-use lib.Dec.{T, ltb, ltb→lt, nltb→le}
-use lib.ListN.{length, length-reverse}
-use mathlib.Core.Bool.{Bool, _||_, false, true}
-use mathlib.Core.List.{List, [], reverse, reverse-reverse}
+use Prim.Native.Nat.{_<_, _≤_, max, min, ℕ}
+use borrow.Author.Tests.{le-ltb, lt-ltb}
+use lib.Dec.{T, leb, leb→le, le→leb, ltb, ltb→lt, nltb→le, not-T}
+use lib.ListN.{getD, length, length-reverse}
+use mathlib.Core.Bool.{Bool, false, true}
+use mathlib.Core.List.{List, reverse, reverse-reverse}
 use mathlib.Core.Logic.{_⊎_, inl, inr}
-use mathlib.Core.Path.{_∙_, _≡_, ap, refl, subst, sym}
+use mathlib.Core.Path.{_∙_, _≡_, ap, subst, sym}
 use native.Mathlib.Omega.{arith}
 use Rattle.frame.specs.Answer.{Answer, gives, refuseIf, refused}
 use Rattle.frame.specs.Mark.{MarkId}
-use Rattle.frame.specs.declared.Past.the-variants.{Unsaid}
 use Rattle.frame.specs.declared.Refusal.the-variants.{NotExecuted, OutputShort}
 use Rattle.causality.specs.Answers.{Evidence, Relation, Same, Before, After, Concurrent}
 use Rattle.causality.specs.Calls.{andThen, relate}
@@ -18,8 +17,9 @@ use Rattle.causality.specs.Evidence.{behind, chain, chainFor, chainIf, evidence
 use Rattle.causality.specs.Marks.{places, same}
 use Rattle.causality.specs.Meaning.{proving}
 use Rattle.causality.specs.State.{Mark, State, precedes}
-use Rattle.causality.specs.declared.Evidence.the-variants.{Concurrent as ConcurrentBy, Refused}
-use Rattle.causality.proofs.Logic.{or-inl, same-refl, split}
+use Rattle.causality.specs.declared.Evidence.the-variants.{Refused}
+use Rattle.causality.proofs.EvidenceLaws.{in-past-tells}
+use Rattle.causality.proofs.Logic.{T→eq, nT→eq, or-inl, or-inr, same-refl, split}
 use Rattle.causality.proofs.Reach.{Sound}
 use Rattle.executed.specs.Rows.{Finds, Lent}
 use Rattle.executed.proofs.Chain.{found-inside, found-place}
@@ -29,16 +29,13 @@ use Rattle.pairs.proofs.Filled.{length-marksOf}
 use Rattle.queries.specs.Lent.{lent}
 use Rattle.queries.specs.Steps.{InPastOf, PrecedesAt}
 use Rattle.queries.proofs.Relating.{relate-back, relate-forward, relate-no-first, relate-no-second, relate-same}
-use Rattle.rows.specs.View.{Carried, nameAt, namesDown, noBox, view, width}
-use Rattle.rows.proofs.Places.{found-some}
-use Rattle.rows.proofs.RowSteps.{named-at}
+use Rattle.rows.specs.View.{Carried, nameAt, namesDown, view, width}
+use Rattle.rows.proofs.Places.{found-some, has-at}
 use Rattle.concurrent.specs.Steps.{isOrFollows}
-use Rattle.concurrent.proofs.ByPlaces.{same-place}
 use Rattle.evidence.specs.Found.{EvidenceFound}
-use Rattle.evidence.specs.Steps.{Between, EitherWay, Reversed, verdictAt}
+use Rattle.evidence.specs.Steps.{GoneBack, Reversed, countsAt, verdictAt}
 use Rattle.evidence.specs.declared.EvidenceList.{EvidenceList}
-use Rattle.evidence.proofs.Chains.{back-some}
-use Rattle.evidence.proofs.Verdicts.{verdict-after, verdict-before, verdict-same}
+use Rattle.evidence.proofs.Verdicts.{counts-after, counts-before, verdict-after, verdict-before, verdict-same}
 
 -- BY THE VERDICT
 
@@ -86,57 +83,31 @@ module _ (st : State) (a b : MarkId) (room : ℕ) where
 
 -- BY PLACES
 
-module _ (ds ns ss : List ℕ) (p q : ℕ) (list : Listed) (w : Between width ds ns ss p q list) where
-  module _ (count : ℕ) (h : q < count) (bs : ℕ → Carried) (s : Sound (view width count ds ns bs ss)) where
-    abbrev l : List Mark
-    l = view width count ds ns bs ss
+-- A chain that was gone back, of a mark at q that is that at p or follows it.
+module _ (ds ns ss : List ℕ) (p q : ℕ) (list : Listed) (g : GoneBack width ds ns ss p q list) (count : ℕ) (h : q < count) (bs : ℕ → Carried) (s : Sound (view width count ds ns bs ss))
+    (t : T (isOrFollows (view width count ds ns bs ss) (nameAt ds ns p) (nameAt ds ns q))) where
+  abbrev back : List MarkId
+  back = goingBack (view width count ds ns bs ss) (nameAt ds ns p) (nameAt ds ns q)
 
-    abbrev back : List MarkId
-    back = goingBack l (nameAt ds ns p) (nameAt ds ns q)
+  -- In the other order its marks are the chain.
+  names-back : (r : Listed) → Reversed list r → marksOf r ≡ chain (view width count ds ns bs ss) (nameAt ds ns p) (nameAt ds ns q)
+  unfolding marksOf chain
+  names-back r v = ap reverse (v .names ∙ ap reverse (g .names count h bs s t) ∙ reverse-reverse back)
 
-    listed : (b : Bool) → isOrFollows l (nameAt ds ns p) (nameAt ds ns q) ≡ b → namesDown (list .count) (list .desks) (list .numbers) ≡ reverse (elim b [ true ↦ back | false ↦ [] ])
-    listed b e = w .names count h bs s ∙ ap (λ (c : Bool). reverse (elim c [ true ↦ back | false ↦ [] ])) e
+  long-back : list .count ≡ length (chain (view width count ds ns bs ss) (nameAt ds ns p) (nameAt ds ns q))
+  unfolding marksOf chain
+  long-back = sym (length-marksOf list) ∙ ap (λ (x : List MarkId). length (reverse x)) (g .names count h bs s t) ∙ length-reverse (reverse back)
 
-    long-as : (c : List MarkId) → namesDown (list .count) (list .desks) (list .numbers) ≡ reverse c → list .count ≡ length c
-    unfolding marksOf
-    long-as c e = sym (length-marksOf list) ∙ ap (λ (x : List MarkId). length (reverse x)) e ∙ length-reverse (reverse c) ∙ length-reverse c
+-- By the count of its desk's marks in the later one's past, whether the earlier mark precedes it.
+precedes-counted : (ds ns ss : List ℕ) (p q x : ℕ) → p < q → InPastOf ds ns ss q (getD ds p 0) x → PrecedesAt ds ns ss p q (leb (getD ns p 0) x)
+precedes-counted ds ns ss p q x o i count bs h s =
+    ap (leb (getD ns p 0)) (i count h bs s) ∙ sym (in-past-tells (view width count ds ns bs ss) s (nameAt ds ns p) (nameAt ds ns q) (has-at width ds ns bs ss count p (omega arith)))
 
-    -- There are marks where the later mark is or follows the earlier one.
-    some-if : (b : Bool) → isOrFollows l (nameAt ds ns p) (nameAt ds ns q) ≡ b → ltb 0 (list .count) ≡ b
-    some-if true e =
-        let n = long-as back (listed true e) in
-        let k = back-some width ds ns bs ss count s (nameAt ds ns p) q h in
-        lt-ltb 0 (list .count) (omega arith)
-    some-if false e = let n = long-as [] (listed false e) in le-ltb 0 (list .count) (omega arith)
-
-    pub follows-some : isOrFollows l (nameAt ds ns p) (nameAt ds ns q) ≡ ltb 0 (list .count)
-    follows-some = sym (some-if (isOrFollows l (nameAt ds ns p) (nameAt ds ns q)) refl)
-
-    pub long-some : 0 < list .count → list .count ≡ length (chain l (nameAt ds ns p) (nameAt ds ns q))
-    unfolding chain
-    long-some k = long-as back (listed true (follows-some ∙ lt-ltb 0 (list .count) k)) ∙ sym (length-reverse back)
-
-    -- In the other order they are the chain.
-    pub names-some : 0 < list .count → (r : Listed) → Reversed list r → marksOf r ≡ chain l (nameAt ds ns p) (nameAt ds ns q)
-    unfolding marksOf chain
-    names-some k r v = ap reverse (v .names ∙ ap reverse (listed true (follows-some ∙ lt-ltb 0 (list .count) k)) ∙ reverse-reverse back)
-
-  pub precedes-some : p < q → PrecedesAt ds ns ss p q (ltb 0 (list .count))
-  precedes-some o count bs h s =
-      sym (follows-some count h bs s) ∙ ap (λ (c : Bool). c || precedes (view width count ds ns bs ss) (nameAt ds ns p) (nameAt ds ns q))
-      (sym (same-place width ds ns bs ss count p q s (omega arith) h) ∙ ne-eqb p q (λ e. omega arith))
-
-pub either-few : (ds ns ss : List ℕ) (p q : ℕ) (list : Listed) → EitherWay width ds ns ss p q list → list .count ≤ places
-either-few ds ns ss p q list w = elim (split (ltb q p)) [ inl t ↦ w .1 (ltb→lt q p t) .few | inr t ↦ w .0 (nltb→le q p t) .few ]
+-- There is a chain from one place to a later one: they are one, or the first one's number is among those of its desk in the other's past.
+abbrev pub Joins : List ℕ → List ℕ → List ℕ → ℕ → ℕ → Type 0
+Joins ds ns ss from to = (to ≤ from) ⊎ ((x : ℕ) × InPastOf ds ns ss to (getD ds from 0) x × (getD ns from 0 ≤ x))
 
 -- LENT ARRAYS
-
--- A mark that is found is of a desk.
-pub found-desk : (count : ℕ) (ds ns ts ls bf : List ℕ) → Lent count ds ns ts ls bf → (a : MarkId) (p : ℕ) → Finds ts ls bf a p → p < places → (1 ≤ a .desk) × (a .desk ≤ width)
-found-desk count ds ns ts ls bf l a p f h =
-    let i = found-inside count ds ns ts ls bf l a p f h in
-    let bs : ℕ → Carried = λ k. record { extent = noBox; past = Unsaid } in
-    subst (λ (j : MarkId). (1 ≤ j .desk) × (j .desk ≤ width)) (found-some width ds ns bs [] count p a i (found-place count ds ns ts ls bf l a p f bs []) .1) (named-at width count ds p (l .named) i)
 
 module _ (count : ℕ) (ds ns ss ts ls bf : List ℕ) (l : Lent count ds ns ts ls bf) (own : ℕ) (bs : ℕ → Carried) (waiting : List Mark)
     (a b : MarkId) (p q : ℕ) (fa : Finds ts ls bf a p) (fb : Finds ts ls bf b q) (room : ℕ) where
@@ -149,7 +120,7 @@ module _ (count : ℕ) (ds ns ss ts ls bf : List ℕ) (l : Lent count ds ns ts l
   pub evidence-no-second : places ≤ q → (r : EvidenceList) → r .answer ≡ Refused NotExecuted → r .list .count ≡ 0 → Spare (r .list) → EvidenceFound (lent count ds ns ss own bs waiting) a b room r
   evidence-no-second h = not-executed state a b room (relate-no-second count ds ns ss ts ls bf l own bs waiting a b p q fa fb h)
 
-  module _ (h : p < places) (k : q < places) (s : Sound (view width count ds ns bs ss)) (list : Listed) (w : EitherWay width ds ns ss p q list) where
+  module _ (h : p < places) (k : q < places) (s : Sound (view width count ds ns bs ss)) where
     abbrev marks : List Mark
     marks = view width count ds ns bs ss
 
@@ -173,85 +144,118 @@ module _ (count : ℕ) (ds ns ss ts ls bf : List ℕ) (l : Lent count ds ns ts l
     ]
 
     -- There is a chain: in the other order it is that of the verdict that comes with it.
-    record Chained : Type 0 where
+    record Chained (list : Listed) : Type 0 where
       verdict : Relation
       related : relate (lent count ds ns ss own bs waiting) a b ≡ gives verdict
       names : (r : Listed) → Reversed list r → marksOf r ≡ chainFor (view width count ds ns bs ss) a b verdict
       long : list .count ≡ length (chainFor (view width count ds ns bs ss) a b verdict)
       answer : proving (verdictAt p q (list .count)) ≡ gives (behind (view width count ds ns bs ss) a b verdict)
 
-    chained : 0 < list .count → Chained
-    chained o = go order
-      where
-        forward : (e : p ≤ q) (r : Listed) → Reversed list r → marksOf r ≡ chain marks a b
-        forward e r v = names-some ds ns ss p q list (w .0 e) count second-in bs s o r v ∙ (λ i. chain marks (first-name i) (second-name i))
+    -- The chain from place i to place j, of these names.
+    module _ (i j : ℕ) (jc : j < count) (list : Listed) (g : GoneBack width ds ns ss i j list) (t : T (isOrFollows (view width count ds ns bs ss) (nameAt ds ns i) (nameAt ds ns j)))
+        (x y : MarkId) (ex : nameAt ds ns i ≡ x) (ey : nameAt ds ns j ≡ y) where
+      names-as : (r : Listed) → Reversed list r → marksOf r ≡ chain (view width count ds ns bs ss) x y
+      names-as r v = names-back ds ns ss i j list g count jc bs s t r v ∙ (λ k. chain marks (ex k) (ey k))
 
-        far : (e : p ≤ q) → list .count ≡ length (chain marks a b)
-        far e = long-some ds ns ss p q list (w .0 e) count second-in bs s o ∙ (λ i. length (chain marks (first-name i) (second-name i)))
+      long-as : list .count ≡ length (chain (view width count ds ns bs ss) x y)
+      long-as = long-back ds ns ss i j list g count jc bs s t ∙ (λ k. length (chain marks (ex k) (ey k)))
 
-        go : (p ≡ q) ⊎ ((p < q) ⊎ (q < p)) → Chained
-        go (inl e) =
-            let names = forward (omega arith) in
-            let long = far (omega arith) in
-            record {
-              verdict = Same;
-              related = relate-same count ds ns ss ts ls bf l own bs waiting a b p q fa fb h k e;
-              names = names;
-              long = long;
-              answer = ap proving (verdict-same p q (list .count) e) ∙ ap (λ (n : ℕ). gives (Same n)) long;
-            }
-        go (inr (inl e)) =
-            let names = forward (omega arith) in
-            let long = far (omega arith) in
-            record {
-              verdict = Before;
-              related = relate-forward count ds ns ss ts ls bf l own bs waiting a b p q fa fb h k s (ltb 0 (list .count)) true (lt-ltb 0 (list .count) o) e (precedes-some ds ns ss p q list (w .0 (omega arith)) e);
-              names = names;
-              long = long;
-              answer = ap proving (verdict-before p q (list .count) (λ x. omega arith) e) ∙ ap (λ (n : ℕ). gives (Before n)) long;
-            }
-        go (inr (inr e)) =
-            let names : (r : Listed) → Reversed list r → marksOf r ≡ chain marks b a = λ r v. names-some ds ns ss q p list (w .1 e) count first-in bs s o r v ∙ (λ i. chain marks (second-name i) (first-name i)) in
-            let long = long-some ds ns ss q p list (w .1 e) count first-in bs s o ∙ (λ i. length (chain marks (second-name i) (first-name i))) in
-            record {
-              verdict = After;
-              related = relate-back count ds ns ss ts ls bf l own bs waiting a b p q fa fb h k s (ltb 0 (list .count)) true (lt-ltb 0 (list .count) o) e (precedes-some ds ns ss q p list (w .1 e) e);
-              names = names;
-              long = long;
-              answer = ap proving (verdict-after p q (list .count) (λ x. omega arith) (omega arith)) ∙ ap (λ (n : ℕ). gives (After n)) long;
-            }
+    -- The mark at i precedes that at j.
+    module _ (i j : ℕ) (o : i < j) (jc : j < count) (c : Joins ds ns ss i j) where
+      before : (x : Bool) × PrecedesAt ds ns ss i j x × (x ≡ true)
+      before = elim c [
+        | inl z ↦ let w : ⊥ = omega arith in absurd w
+        | inr z ↦ (leb (getD ns i 0) (z .0), precedes-counted ds ns ss i j (z .0) o (z .1), T→eq (leb (getD ns i 0) (z .0)) (le→leb (getD ns i 0) (z .0) (z .2)))
+      ]
 
-    -- There is none: the marks are concurrent.
-    apart : list .count ≡ 0 → relate (lent count ds ns ss own bs waiting) a b ≡ gives Concurrent
-    apart z = go order
-      where
-        none : ltb 0 (list .count) ≡ false
-        none = le-ltb 0 (list .count) (omega arith)
+      follows : T (isOrFollows (view width count ds ns bs ss) (nameAt ds ns i) (nameAt ds ns j))
+      follows = or-inr (same (nameAt ds ns i) (nameAt ds ns j)) (precedes marks (nameAt ds ns i) (nameAt ds ns j)) (rw (← before .1 count bs jc s, before .2) tt)
 
-        go : (p ≡ q) ⊎ ((p < q) ⊎ (q < p)) → relate (lent count ds ns ss own bs waiting) a b ≡ gives Concurrent
-        go (inl e) =
-            let x = follows-some ds ns ss p q list (w .0 (omega arith)) count second-in bs s ∙ none in
-            let y : T (same (nameAt ds ns p) (nameAt ds ns q)) = subst (λ (r : ℕ). T (same (nameAt ds ns p) (nameAt ds ns r))) e (same-refl (nameAt ds ns p)) in
-            absurd (rw x at (or-inl (same (nameAt ds ns p) (nameAt ds ns q)) (precedes marks (nameAt ds ns p) (nameAt ds ns q)) y))
-        go (inr (inl e)) = relate-forward count ds ns ss ts ls bf l own bs waiting a b p q fa fb h k s (ltb 0 (list .count)) false none e (precedes-some ds ns ss p q list (w .0 (omega arith)) e)
-        go (inr (inr e)) = relate-back count ds ns ss ts ls bf l own bs waiting a b p q fa fb h k s (ltb 0 (list .count)) false none e (precedes-some ds ns ss q p list (w .1 e) e)
+    module _ (from to : ℕ) (ef : from ≡ min p q) (et : to ≡ max p q) where
+      chained : Joins ds ns ss from to → (list : Listed) → GoneBack width ds ns ss from to list → Chained list
+      chained c list g = go order
+        where
+          at : (i j : ℕ) → from ≡ i → to ≡ j → GoneBack width ds ns ss i j list × Joins ds ns ss i j
+          at i j e f =
+              subst (λ (x : ℕ). GoneBack width ds ns ss x j list × Joins ds ns ss x j) e (subst (λ (y : ℕ). GoneBack width ds ns ss from y list × Joins ds ns ss from y) f (g, c))
 
-    pub evidence-concurrent : list .count ≡ 0 → (x y : ℕ) → InPastOf ds ns ss q (a .desk) x → InPastOf ds ns ss p (b .desk) y
-        → (r : EvidenceList) → r .answer ≡ ConcurrentBy x y → r .list .count ≡ 0 → Spare (r .list) → EvidenceFound (lent count ds ns ss own bs waiting) a b room r
-    unfolding marksOf
-    evidence-concurrent z x y ix iy r e n =
-        let ex = ix count second-in bs s ∙ ap (inPast marks (a .desk)) second-name in
-        let ey = iy count first-in bs s ∙ ap (inPast marks (b .desk)) first-name in
-        shown state a b room Concurrent (apart z) r (ap proving e ∙ (λ i. gives (Concurrent (ex i) (ey i)))) (ap (λ (c : ℕ). reverse (namesDown c (r .list .desks) (r .list .numbers))) n) (omega arith) (omega arith)
+          go : (p ≡ q) ⊎ ((p < q) ⊎ (q < p)) → Chained list
+          go (inl e) =
+              let w = at p q (omega arith) (omega arith) in
+              let t = or-inl (same (nameAt ds ns p) (nameAt ds ns q)) (precedes marks (nameAt ds ns p) (nameAt ds ns q)) (subst (λ (r : ℕ). T (same (nameAt ds ns p) (nameAt ds ns r))) e (same-refl (nameAt ds ns p))) in
+              let long = long-as p q second-in list (w .0) t a b first-name second-name in
+              record {
+                verdict = Same;
+                related = relate-same count ds ns ss ts ls bf l own bs waiting a b p q fa fb h k e;
+                names = names-as p q second-in list (w .0) t a b first-name second-name;
+                long = long;
+                answer = ap proving (verdict-same p q (list .count) e) ∙ ap (λ (n : ℕ). gives (Same n)) long;
+              }
+          go (inr (inl e)) =
+              let w = at p q (omega arith) (omega arith) in
+              let x = before p q e second-in (w .1) in
+              let t = follows p q e second-in (w .1) in
+              let long = long-as p q second-in list (w .0) t a b first-name second-name in
+              record {
+                verdict = Before;
+                related = relate-forward count ds ns ss ts ls bf l own bs waiting a b p q fa fb h k s (x .0) true (x .2) e (x .1);
+                names = names-as p q second-in list (w .0) t a b first-name second-name;
+                long = long;
+                answer = ap proving (verdict-before p q (list .count) (λ z. omega arith) e) ∙ ap (λ (n : ℕ). gives (Before n)) long;
+              }
+          go (inr (inr e)) =
+              let w = at q p (omega arith) (omega arith) in
+              let x = before q p e first-in (w .1) in
+              let t = follows q p e first-in (w .1) in
+              let long = long-as q p first-in list (w .0) t b a second-name first-name in
+              record {
+                verdict = After;
+                related = relate-back count ds ns ss ts ls bf l own bs waiting a b p q fa fb h k s (x .0) true (x .2) e (x .1);
+                names = names-as q p first-in list (w .0) t b a second-name first-name;
+                long = long;
+                answer = ap proving (verdict-after p q (list .count) (λ z. omega arith) (omega arith)) ∙ ap (λ (n : ℕ). gives (After n)) long;
+              }
 
-    pub evidence-too-short : 0 < list .count → room < list .count → (r : EvidenceList) → r .answer ≡ Refused OutputShort → r .list .count ≡ 0 → Spare (r .list)
-        → EvidenceFound (lent count ds ns ss own bs waiting) a b room r
-    evidence-too-short o short = let c = chained o in let n = c .long in too-short state a b room (c .verdict) (c .related) (omega arith)
+      pub evidence-too-short : Joins ds ns ss from to → (list : Listed) → GoneBack width ds ns ss from to list → room < list .count
+          → (r : EvidenceList) → r .answer ≡ Refused OutputShort → r .list .count ≡ 0 → Spare (r .list) → EvidenceFound (lent count ds ns ss own bs waiting) a b room r
+      evidence-too-short j list g short = let c = chained j list g in let n = c .long in too-short state a b room (c .verdict) (c .related) (omega arith)
 
-    pub evidence-shown : 0 < list .count → list .count ≤ room → (r : EvidenceList) → r .answer ≡ verdictAt p q (list .count) → Reversed list (r .list)
-        → EvidenceFound (lent count ds ns ss own bs waiting) a b room r
-    evidence-shown o enough r e v =
-        let c = chained o in
-        let n = v .count in
-        let f = either-few ds ns ss p q list w in
-        shown state a b room (c .verdict) (c .related) r (ap proving e ∙ c .answer) (c .names (r .list) v) (omega arith) (omega arith) (v .spare)
+      pub evidence-shown : Joins ds ns ss from to → (list : Listed) → GoneBack width ds ns ss from to list → list .count ≤ room
+          → (r : EvidenceList) → r .answer ≡ verdictAt p q (list .count) → Reversed list (r .list) → EvidenceFound (lent count ds ns ss own bs waiting) a b room r
+      evidence-shown j list g enough r e v =
+          let c = chained j list g in
+          let n = v .count in
+          let f = g .few in
+          shown state a b room (c .verdict) (c .related) r (ap proving e ∙ c .answer) (c .names (r .list) v) (omega arith) (omega arith) (v .spare)
+
+      -- There is no chain: the marks are concurrent, with these counts.
+      pub evidence-concurrent : from < to → (early late : ℕ) → InPastOf ds ns ss to (getD ds from 0) early → early < getD ns from 0 → InPastOf ds ns ss from (getD ds to 0) late
+          → (r : EvidenceList) → r .answer ≡ countsAt p q early late → r .list .count ≡ 0 → Spare (r .list) → EvidenceFound (lent count ds ns ss own bs waiting) a b room r
+      unfolding marksOf
+      evidence-concurrent o early late ie less il r e n = go order
+        where
+          Apart : ℕ → ℕ → Type 0
+          Apart i j = InPastOf ds ns ss j (getD ds i 0) early × (early < getD ns i 0) × InPastOf ds ns ss i (getD ds j 0) late
+
+          at : (i j : ℕ) → from ≡ i → to ≡ j → Apart i j
+          at i j e f = subst (λ (x : ℕ). Apart x j) e (subst (λ (y : ℕ). Apart from y) f (ie, less, il))
+
+          no : (i : ℕ) → early < getD ns i 0 → leb (getD ns i 0) early ≡ false
+          no i h = nT→eq (leb (getD ns i 0) early) (not-T (leb (getD ns i 0) early) (λ t. let z = leb→le (getD ns i 0) early t in omega arith))
+
+          by : (x y : ℕ) → proving (r .answer) ≡ gives (Concurrent x y) → relate (lent count ds ns ss own bs waiting) a b ≡ gives Concurrent → x ≡ inPast marks (a .desk) b → y ≡ inPast marks (b .desk) a
+              → Spare (r .list) → EvidenceFound (lent count ds ns ss own bs waiting) a b room r
+          by x y u v ex ey = shown state a b room Concurrent v r (u ∙ (λ i. gives (Concurrent (ex i) (ey i)))) (ap (λ (c : ℕ). reverse (namesDown c (r .list .desks) (r .list .numbers))) n) (omega arith) (omega arith)
+
+          go : (p ≡ q) ⊎ ((p < q) ⊎ (q < p)) → Spare (r .list) → EvidenceFound (lent count ds ns ss own bs waiting) a b room r
+          go (inl z) = let w : ⊥ = omega arith in absurd w
+          go (inr (inl z)) =
+              let w = at p q (omega arith) (omega arith) in
+              by early late (ap proving (e ∙ counts-before p q early late z))
+              (relate-forward count ds ns ss ts ls bf l own bs waiting a b p q fa fb h k s (leb (getD ns p 0) early) false (no p (w .1)) z (precedes-counted ds ns ss p q early z (w .0)))
+              (w .0 count second-in bs s ∙ (λ i. inPast marks (first-name i .desk) (second-name i))) (w .2 count first-in bs s ∙ (λ i. inPast marks (second-name i .desk) (first-name i)))
+          go (inr (inr z)) =
+              let w = at q p (omega arith) (omega arith) in
+              by late early (ap proving (e ∙ counts-after p q early late (omega arith)))
+              (relate-back count ds ns ss ts ls bf l own bs waiting a b p q fa fb h k s (leb (getD ns q 0) early) false (no q (w .1)) z (precedes-counted ds ns ss q p early z (w .0)))
+              (w .2 count second-in bs s ∙ (λ i. inPast marks (first-name i .desk) (second-name i))) (w .0 count first-in bs s ∙ (λ i. inPast marks (second-name i .desk) (first-name i)))

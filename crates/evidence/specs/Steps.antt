@@ -1,6 +1,6 @@
 -- What the inner functions of Evidence find. n: how many desks. Inner: need not be believed.
 use mathlib.Core.Bool.{Bool, true, false, _&&_}
-use mathlib.Core.List.{List, [], _∷_, reverse}
+use mathlib.Core.List.{List, _∷_, reverse}
 use mathlib.Core.Path.{_≡_}
 use Prim.Native.Nat.{ℕ, suc, _+_, _*_, _≤_, _<_}
 use lib.Dec.{T, eqb, leb, ltb}
@@ -9,8 +9,7 @@ use Rattle.frame.specs.Mark.{MarkId}
 use Rattle.causality.specs.Evidence.{goingBack}
 use Rattle.causality.specs.Marks.{places}
 use Rattle.causality.specs.declared.Evidence.{Evidence}
-use Rattle.causality.specs.declared.Evidence.the-variants.{Same, Before, After}
-use Rattle.causality.specs.State.{Mark}
+use Rattle.causality.specs.declared.Evidence.the-variants.{Same, Before, After, Concurrent}
 use Rattle.pairs.specs.Pairs.{Spare}
 use Rattle.pairs.specs.declared.Listed.{Listed}
 use Rattle.rows.specs.View.{nameAt, namesDown}
@@ -56,20 +55,10 @@ pub record Reversed (list r : Listed) : Type 0 where
   pub spare : Spare r
   pub names : namesDown (r .count) (r .desks) (r .numbers) ≡ reverse (namesDown (list .count) (list .desks) (list .numbers))
 
--- From b back to a, where b is a or follows a; else none.
-abbrev pub backIf : List Mark → MarkId → MarkId → List MarkId
-backIf l a b = elim (isOrFollows l a b) [ true ↦ goingBack l a b | false ↦ [] ]
-
--- The chain from the mark at place p, going back from that at place q, if there is one.
-pub record Between (n : ℕ) (ds ns ss : List ℕ) (p q : ℕ) (r : Listed) : Type 0 where
-  pub few : r .count ≤ places
-  pub names : (count : ℕ) → q < count
-      → OfMarks n count ds ns ss (λ l. namesDown (r .count) (r .desks) (r .numbers) ≡ reverse (backIf l (nameAt ds ns p) (nameAt ds ns q)))
-
--- The same, whichever of the two stands first.
-abbrev pub EitherWay : ℕ → List ℕ → List ℕ → List ℕ → ℕ → ℕ → Listed → Type 0
-EitherWay n ds ns ss p q r = (p ≤ q → Between n ds ns ss p q r) × (q < p → Between n ds ns ss q p r)
-
 -- The verdict of two places between which there is a chain of so many.
 abbrev pub verdictAt : ℕ → ℕ → ℕ → Evidence
 verdictAt p q n = elim (eqb p q) [ true ↦ Same n | false ↦ elim (ltb p q) [ true ↦ Before n | false ↦ After n ] ]
+
+-- The counts of two places with no chain between: that of the earlier mark's desk first where it is at p.
+abbrev pub countsAt : ℕ → ℕ → ℕ → ℕ → Evidence
+countsAt p q early late = elim (ltb p q) [ true ↦ Concurrent early late | false ↦ Concurrent late early ]

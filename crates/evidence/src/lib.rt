@@ -1,16 +1,16 @@
 // Evidence over lent arrays: the verdict of Relate with the chain or the counts behind it.
 ghost use mathlib.Core.Path.{_≡_};
-ghost use Prim.Native.Nat.{_≤_, _<_};
+ghost use Prim.Native.Nat.{min, max, _≤_, _<_};
 ghost use lib.ListN.{length};
 ghost use Rattle.causality.specs.Marks.{places};
 ghost use Rattle.causality.specs.Meaning.{idOf};
 ghost use Rattle.concurrent.specs.Steps.{Tells};
 ghost use Rattle.evidence.specs.Found.{EvidenceFound};
 ghost use Rattle.evidence.specs.Steps.{LowestReached, PlaceBelow, SteppedBack};
-ghost use Rattle.evidence.specs.Steps.{GoneBack, Reversed, Between, EitherWay, slots, verdictAt};
+ghost use Rattle.evidence.specs.Steps.{GoneBack, Reversed, countsAt, slots, verdictAt};
 ghost use Rattle.pairs.specs.Pairs.{Spare};
 ghost use Rattle.queries.specs.Lent.{HasLent, OfEach};
-ghost use Rattle.rows.specs.View.{Named, width};
+ghost use Rattle.rows.specs.View.{width};
 use causality::Evidence;
 use causality::MarkId;
 use causality::Place;
@@ -121,49 +121,18 @@ fn going_back<'a>(
     k + 1
 }
 
-// The same if the mark at q is that at p or follows it; else there is no chain, and 0 is given.
-fn between<'a>(
-    desks: &'a [u8; PLACES],
-    numbers: &'a [u16; PLACES],
-    stamps: &'a [u16; PLACES * WIDTH],
-    p: Place,
-    q: Place,
-    ds: &mut [u8; PLACES],
-    ns: &mut [u16; PLACES],
-) -> usize
-    requires { ⌜ (p .0 ≤ q .0) × (q .0 < places) × Named width (q .0) (now desks) × Spare (slots (now ds) (now ns) 0) ⌝ }
-    ensures { λ r. ⌜ Between width (now (desks .entry)) (now (numbers .entry)) (now (stamps .entry)) (p .0) (q .0)
-        (slots (now (ds .exit)) (now (ns .exit)) r) ⌝ }
+// The lower of two places, at which the earlier mark stands.
+fn lower(p: usize, q: usize) -> usize
+    ensures { λ r. ⌜ r ≡ min p q ⌝ }
 {
-    let first = first_followers(desks, numbers, stamps, p, q);
-    let j = lowest_entry(stamps, &first, q);
-    if p.0 < q.0 {
-        if WIDTH <= j {
-            return 0;
-        }
-    }
-    going_back(desks, numbers, stamps, &first, p, q, ds, ns)
+    if p < q { p } else { q }
 }
 
-// The chain between two marks, whichever is the earlier.
-fn either_way<'a>(
-    desks: &'a [u8; PLACES],
-    numbers: &'a [u16; PLACES],
-    stamps: &'a [u16; PLACES * WIDTH],
-    p: Place,
-    q: Place,
-    ds: &mut [u8; PLACES],
-    ns: &mut [u16; PLACES],
-) -> usize
-    requires { ⌜ (p .0 < places) × (q .0 < places) × Named width (p .0) (now desks) × Named width (q .0) (now desks)
-        × Spare (slots (now ds) (now ns) 0) ⌝ }
-    ensures { λ r. ⌜ EitherWay width (now (desks .entry)) (now (numbers .entry)) (now (stamps .entry)) (p .0) (q .0)
-        (slots (now (ds .exit)) (now (ns .exit)) r) ⌝ }
+// The higher, that of the later mark.
+fn higher(p: usize, q: usize) -> usize
+    ensures { λ r. ⌜ r ≡ max p q ⌝ }
 {
-    if p.0 <= q.0 {
-        return between(desks, numbers, stamps, p, q, ds, ns);
-    }
-    between(desks, numbers, stamps, q, p, ds, ns)
+    if p < q { q } else { p }
 }
 
 // The verdict where there is a chain of so many between two places.
@@ -177,6 +146,16 @@ fn verdict(p: usize, q: usize, length: usize) -> Evidence
         return Evidence::Before(length);
     }
     Evidence::After(length)
+}
+
+// The counts behind Concurrent of two places: of the earlier mark's desk in the later one's past, and the other way.
+fn counts(p: usize, q: usize, early: u16, late: u16) -> Evidence
+    ensures { λ r. ⌜ r ≡ countsAt p q early late ⌝ }
+{
+    if p < q {
+        return Evidence::Concurrent(early, late);
+    }
+    Evidence::Concurrent(late, early)
 }
 
 // An answer with no chain: a refusal, or Concurrent.
@@ -245,14 +224,28 @@ pub fn evidence_list<'a>(
     if PLACES <= q {
         return alone(Evidence::Refused(Refusal::NotExecuted));
     }
+    let from = lower(p, q);
+    let to = higher(p, q);
+    if from < to {
+        let early = in_past(desks, numbers, stamps, tally, last, Place(to), desks[from]);
+        if early < numbers[from] {
+            let late = in_past(desks, numbers, stamps, tally, last, Place(from), desks[to]);
+            return alone(counts(p, q, early, late));
+        }
+    }
+    let first = first_followers(desks, numbers, stamps, Place(from), Place(to));
     let mut ds = [0u8; PLACES];
     let mut ns = [0u16; PLACES];
-    let length = either_way(desks, numbers, stamps, Place(p), Place(q), &mut ds, &mut ns);
-    if length == 0 {
-        let x = in_past(desks, numbers, stamps, tally, last, Place(q), a.desk);
-        let y = in_past(desks, numbers, stamps, tally, last, Place(p), b.desk);
-        return alone(Evidence::Concurrent(x, y));
-    }
+    let length = going_back(
+        desks,
+        numbers,
+        stamps,
+        &first,
+        Place(from),
+        Place(to),
+        &mut ds,
+        &mut ns,
+    );
     if room < length {
         return alone(Evidence::Refused(Refusal::OutputShort));
     }
