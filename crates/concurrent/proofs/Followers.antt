@@ -1,12 +1,11 @@
 -- The first followers of a mark, noted in a row as the places pass. n: how many desks. Assumes nothing.
 use Prim.Native.Nat.{_+_, _-_, _<_, _≤_, suc, ℕ}
 use borrow.Author.Tests.{eq-eqb, eqb-false, eqb-true, ne-eqb}
-use lib.Dec.{eqb, leb, nleb→lt}
+use lib.Dec.{eqb}
 use lib.ListN.{getD, length, length-replicate, length-set, replicate, set}
 use lib.Seq.{getD-set-other, getD-set-same}
 use mathlib.Core.Bool.{Bool, _&&_, _||_, false, true}
 use mathlib.Core.List.{List}
-use mathlib.Core.Logic.{inl, inr}
 use mathlib.Core.Path.{_∙_, _≡_, ap, refl, subst, sym}
 use native.Mathlib.Numerals.{add-one}
 use native.Mathlib.Omega.{arith}
@@ -14,7 +13,6 @@ use Rattle.frame.specs.Mark.{MarkId}
 use Rattle.causality.specs.Marks.{same}
 use Rattle.causality.specs.State.{Mark, precedes}
 use Rattle.causality.proofs.Apart.{follower-cong, follower-new, followers, noted, reached-by-row, reachedBy, someFollower}
-use Rattle.causality.proofs.Logic.{T→eq, nT→eq, split}
 use Rattle.causality.proofs.Reach.{Sound}
 use Rattle.rows.specs.View.{Carried, markAt, rowAt, rowFn, view}
 use Rattle.rows.proofs.Arrays.{sound-below}
@@ -58,12 +56,9 @@ module _ (n : ℕ) (ds ns ss : List ℕ) (count p : ℕ) where
   noted-none = record { long = length-replicate {A = ℕ} n 0; rows = λ bs s d lo hi. zeros n (d - 1) }
 
   module _ (q : ℕ) (first : List ℕ) (w : Noted q first) (h : p < count) (l : q < count) where
-    -- Is the mark the given one, or does its stamp name a follower? The code asks it of no mark before the given one.
+    -- Is the mark the given one, or does its stamp name a follower?
     abbrev pub names : Bool
     names = eqb p q || someFollower n (rowFn first) (rowAt n ss q)
-
-    abbrev test : Bool
-    test = leb p q && names
 
     module _ (bs : ℕ → Carried) (s : Sound (view n count ds ns bs ss)) where
       abbrev m : Mark
@@ -84,18 +79,11 @@ module _ (n : ℕ) (ds ns ss : List ℕ) (count p : ℕ) where
       follows-is = ap (λ (b : Bool). same given (m .id) || b) (precedes-there n ds ns bs ss count q s l given) ∙ follower-new m older (sound-below n count ds ns bs ss s (suc q) l) given ∙ sym names-is
 
       -- A mark before it is neither.
-      none-before : q < p → names ≡ false
+      pub none-before : q < p → names ≡ false
       none-before o =
           let a = sym (same-place n ds ns bs ss count p q s h l) ∙ ne-eqb p q (λ e. omega arith) in
           let b = precedes-no-earlier n ds ns bs ss count p q s h (omega arith) in
           sym follows-is ∙ (λ i. a i || b i)
-
-      -- What the code's test says.
-      pub test-names : test ≡ names
-      test-names = elim (split (leb p q)) [
-        | inl t ↦ ap (λ (b : Bool). b && names) (T→eq (leb p q) t)
-        | inr t ↦ ap (λ (b : Bool). b && names) (nT→eq (leb p q) t) ∙ sym (none-before (nleb→lt p q t))
-      ]
 
       -- The desk has a follower noted.
       own-names : 1 ≤ getD ds q 0 → getD ds q 0 ≤ n → 0 < rowFn first (getD ds q 0) → names ≡ true
@@ -125,10 +113,10 @@ module _ (n : ℕ) (ds ns ss : List ℕ) (count p : ℕ) where
 
     module _ (lo : 1 ≤ getD ds q 0) (hi : getD ds q 0 ≤ n) where
       -- The mark is the first follower of its desk, or one behind.
-      pub note-new : getD first (getD ds q 0 - 1) 0 ≡ 0 → (leb p q && (eqb p q || someFollower n (rowFn first) (rowAt n ss q))) ≡ true → Noted (q + 1) (set first (getD ds q 0 - 1) (getD ns q 0))
+      pub note-new : getD first (getD ds q 0 - 1) 0 ≡ 0 → names ≡ true → Noted (q + 1) (set first (getD ds q 0 - 1) (getD ns q 0))
       note-new z e =
           let long = w .long in
-          noting (λ bs s. sym (test-names bs s) ∙ e) (set first (getD ds q 0 - 1) (getD ns q 0)) (length-set first (getD ds q 0 - 1) (getD ns q 0) ∙ long)
+          noting (λ bs s. e) (set first (getD ds q 0 - 1) (getD ns q 0)) (length-set first (getD ds q 0 - 1) (getD ns q 0) ∙ long)
           (note-first first (getD ds q 0) (getD ns q 0) lo (omega arith) z)
 
       pub behind-follows : (getD first (getD ds q 0 - 1) 0 ≡ 0 → ⊥) → Told true
@@ -138,5 +126,5 @@ module _ (n : ℕ) (ds ns ss : List ℕ) (count p : ℕ) where
       note-behind z = noting (behind-follows z) first (w .long) (λ d x. note-later first (getD ds q 0) (getD ns q 0) lo z d)
 
     -- It is none.
-    pub note-none : (leb p q && (eqb p q || someFollower n (rowFn first) (rowAt n ss q))) ≡ false → Noted (q + 1) first
-    note-none t = record { long = w .long; rows = step-rows first false (λ bs s. sym (test-names bs s) ∙ t) (λ d lo hi. refl) }
+    pub note-none : Told false → Noted (q + 1) first
+    note-none t = record { long = w .long; rows = step-rows first false t (λ d lo hi. refl) }

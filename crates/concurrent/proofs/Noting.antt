@@ -1,6 +1,6 @@
 -- The row of first followers, noted from the mark's own place on. n: how many desks. Assumes nothing.
 use Prim.Native.Nat.{_+_, _-_, _<_, _≤_, suc, zero, ℕ}
-use borrow.Author.Tests.{lt-leb, lt-ltb}
+use borrow.Author.Tests.{lt-ltb}
 use lib.Dec.{eqb, leb, ltb, ltb→lt, nltb→le}
 use lib.ListN.{getD, length, replicate, set}
 use lib.Seq.{getD-set-other, getD-set-same}
@@ -21,7 +21,7 @@ use Rattle.rows.proofs.Arrays.{follows-below, sound-below}
 use Rattle.rows.proofs.Places.{ids-names}
 use Rattle.rows.proofs.RowSteps.{named-at}
 use Rattle.rows.proofs.Slots.{zeros}
-use Rattle.concurrent.proofs.Followers.{Noted, note-behind, note-new, note-none, noted-none}
+use Rattle.concurrent.proofs.Followers.{Noted, none-before, note-behind, note-new, note-none, noted-none}
 use Rattle.concurrent.specs.Steps.{Tells, isOrFollows}
 use Rattle.concurrent.proofs.ByPlaces.{follows-there, name-place}
 
@@ -102,9 +102,9 @@ module _ (n : ℕ) (ds ns ss : List ℕ) (p q : ℕ) where
     start : (count : ℕ) → p < count → q ≤ count → (r : ℕ) → r ≤ p → Noted n ds ns ss count p r (replicate n 0)
     start count j k zero l = noted-none n ds ns ss count p
     start count j k (suc r) l =
-        let t = ap (λ (b : Bool). b && (eqb p r || someFollower n (rowFn (replicate n 0)) (rowAt n ss r))) (lt-leb p r l) in
+        let w = start count j k r (omega arith) in
         subst (λ (x : ℕ). Noted n ds ns ss count p x (replicate n 0)) (add-one r)
-        (note-none n ds ns ss count p r (replicate n 0) (start count j k r (omega arith)) (omega arith) (omega arith) t)
+        (note-none n ds ns ss count p r (replicate n 0) w (omega arith) (omega arith) (λ bs s. none-before n ds ns ss count p r (replicate n 0) w (omega arith) (omega arith) bs s l))
 
     pub noting-starts : NotedTo p (replicate n 0) 0
     noting-starts = record {
@@ -124,7 +124,7 @@ module _ (n : ℕ) (ds ns ss : List ℕ) (p q : ℕ) where
       hi = named-at n q ds r named l .1
 
       -- The mark is the first follower of its desk; of a desk that has one; none.
-      pub noting-new : getD first (getD ds r 0 - 1) 0 ≡ 0 → (leb p r && (eqb p r || someFollower n (rowFn first) (rowAt n ss r))) ≡ true
+      pub noting-new : getD first (getD ds r 0 - 1) 0 ≡ 0 → (eqb p r || someFollower n (rowFn first) (rowAt n ss r)) ≡ true
           → NotedTo (r + 1) (set first (getD ds r 0 - 1) (getD ns r 0)) (found + 1)
       noting-new z e =
           let f = w .from in
@@ -151,11 +151,11 @@ module _ (n : ℕ) (ds ns ss : List ℕ) (p q : ℕ) where
           let g = w .few in
           record { from = omega arith; to = omega arith; few = omega arith; long = w .long; noted = λ count j k. note-behind n ds ns ss count p r first (w .noted count j k) (omega arith) (omega arith) lo hi z; desks = w .desks }
 
-      pub noting-none : (leb p r && (eqb p r || someFollower n (rowFn first) (rowAt n ss r))) ≡ false → NotedTo (r + 1) first found
+      pub noting-none : (eqb p r || someFollower n (rowFn first) (rowAt n ss r)) ≡ false → NotedTo (r + 1) first found
       noting-none e =
           let f = w .from in
           let g = w .few in
-          record { from = omega arith; to = omega arith; few = omega arith; long = w .long; noted = λ count j k. note-none n ds ns ss count p r first (w .noted count j k) (omega arith) (omega arith) e; desks = w .desks }
+          record { from = omega arith; to = omega arith; few = omega arith; long = w .long; noted = λ count j k. note-none n ds ns ss count p r first (w .noted count j k) (omega arith) (omega arith) (λ bs s. e); desks = w .desks }
 
     -- What is noted of all marks before q tells of them.
     told : (first : List ℕ) → length first ≡ n → ((count : ℕ) → p < count → q ≤ count → (bs : ℕ → Carried) → Sound (view n count ds ns bs ss) → Noted n ds ns ss count p q first) → Tells n ds ns ss p q first

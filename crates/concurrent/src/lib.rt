@@ -36,7 +36,7 @@ pub fn reaches(f: u16, x: u16) -> bool
 }
 
 // Is the mark at place q the given one at p, or does its stamp name a follower of it? By the first follower's number at each desk.
-// None before p does. Each desk is tested, so that the loop becomes vector code.
+// Each desk is tested, so that the loop becomes vector code.
 fn follows<'a>(
     stamps: &'a [u16; PLACES * WIDTH],
     first: &'a [u16; WIDTH],
@@ -44,12 +44,8 @@ fn follows<'a>(
     q: Place,
 ) -> bool
     requires { ⌜ q .0 < places ⌝ }
-    ensures { λ r. ⌜ r ≡ (leb (p .0) (q .0) && (eqb (p .0) (q .0)
-        || someFollower width (rowFn (now (first .entry))) (rowAt width (now (stamps .entry)) (q .0)))) ⌝ }
+    ensures { λ r. ⌜ r ≡ (eqb (p .0) (q .0) || someFollower width (rowFn (now (first .entry))) (rowAt width (now (stamps .entry)) (q .0))) ⌝ }
 {
-    if q.0 < p.0 {
-        return false;
-    }
     let base = q.0 * WIDTH;
     let mut found = p.0 == q.0;
     let mut j = 0;
