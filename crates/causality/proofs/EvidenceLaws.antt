@@ -1,6 +1,6 @@
 -- Order 5: the evidence behind a verdict is Relate's verdict, with a chain of entries or with counts below the marks' own numbers. Assumes nothing.
 use Prim.Native.Nat.{_<_, _≤_, suc, ℕ}
-use lib.Dec.{T, T-not, eqb, eqb→eq, leb, leb→le, le→leb, ltb, ltb→lt, nleb→lt, not-T}
+use lib.Dec.{T, T-not, eqb, eqb→eq, leb, leb→le, ltb, ltb→lt, nleb→lt, not-T}
 use lib.ListN.{length, length-reverse}
 use mathlib.Core.Bool.{Bool, _&&_, _||_, cond, false, not, true}
 use mathlib.Core.List.{List, [], _∷_, reverseAux}
@@ -16,7 +16,7 @@ use Rattle.causality.specs.Evidence.{BesideRelate, ChainOf, Proves, Show
 use Rattle.causality.specs.Marks.{All, any, find, has, keep, same, tally}
 use Rattle.causality.specs.State.{Mark, State, ids, precedes}
 use Rattle.causality.proofs.Lists.{Among, Lowest, absent-all, all-map, any-find, any-of, has-keep, has-self, keep-has, lowest-least}
-use Rattle.causality.proofs.Logic.{T→eq, and-fst, and-snd, bool-ext, nT→eq, or-cases, or-inl, or-inr, same-refl, same→eq, split}
+use Rattle.causality.proofs.Logic.{T→eq, and-fst, and-snd, nT→eq, or-cases, or-inl, or-inr, same-refl, same→eq, split}
 use Rattle.causality.proofs.Past.{Counted, Standing, behind-all, counted, fresh-of, precedes-past, prefix-has, prefix-le}
 use Rattle.causality.proofs.Reach.{Sound, local, not-new, precedes-at, precedes-listed, precedes-old, sound-counted}
 use Rattle.causality.proofs.Reckoning.{Once, among-le, counted-once, keep-once}
@@ -235,12 +235,15 @@ keep-counted p (x ∷ xs) c f = go (p x) refl (keep-counted p xs (c .1) f)
     go true e ih = (c .0 ∙ ap suc (sym (tally-keep (x .desk) p xs (lower (rw e tt)))), ih)
     go false e ih = ih
 
--- A mark precedes another if its number is among those of its desk that do.
-pub in-past-tells : (l : List Mark) → Sound l → (a b : MarkId) → T (has a (ids l)) → precedes l a b ≡ leb (a .number) (inPast l (a .desk) b)
+-- "below the marks' own numbers".
+in-past-below : (l : List Mark) → Sound l → (a b : MarkId) → T (has a (ids l)) → T (not (precedes l a b)) → inPast l (a .desk) b < a .number
 unfolding inPast
-in-past-tells l s a b t = bool-ext (precedes l a b) (leb (a .number) (tally (a .desk) (keep p (ids l))))
-    (λ q. le→leb (a .number) (tally (a .desk) (keep p (ids l))) (prefix-le (keep p (ids l)) kept a (has-keep p (ids l) a t q) .1))
-    (λ q. keep-has p (ids l) a (prefix-has (keep p (ids l)) kept a (prefix-le (ids l) c a t .0) (leb→le (a .number) (tally (a .desk) (keep p (ids l))) q)) .1)
+in-past-below l s a b t n = elim (split (leb (a .number) (tally (a .desk) (local l b)))) [
+  | inl q ↦
+      let k = prefix-has (local l b) (keep-counted p (ids l) c (past-first-run l s b)) a (prefix-le (ids l) c a t .0) (leb→le (a .number) (tally (a .desk) (local l b)) q) in
+      absurd (T-not (precedes l a b) n (keep-has p (ids l) a k .1))
+  | inr q ↦ nleb→lt (a .number) (tally (a .desk) (local l b)) q
+]
   where
     p : MarkId → Bool
     p i = precedes l i b
@@ -248,12 +251,12 @@ in-past-tells l s a b t = bool-ext (precedes l a b) (leb (a .number) (tally (a .
     c : Counted (ids l)
     c = sound-counted l s
 
-    kept : Counted (keep p (ids l))
-    kept = keep-counted p (ids l) c (past-first-run l s b)
-
--- "below the marks' own numbers".
-in-past-below : (l : List Mark) → Sound l → (a b : MarkId) → T (has a (ids l)) → T (not (precedes l a b)) → inPast l (a .desk) b < a .number
-in-past-below l s a b t n = nleb→lt (a .number) (inPast l (a .desk) b) (rw (← in-past-tells l s a b t) n)
+-- Of two concurrent marks both counts.
+pub counts-below : (st : State) → Sound (st .executed) → (a b : MarkId) → relate st a b ≡ gives Concurrent
+    → (inPast (st .executed) (a .desk) b < a .number) × (inPast (st .executed) (b .desk) a < b .number)
+counts-below st s a b e =
+    let c : Case (st .executed) a b (gives Concurrent) = rw e at (relate-case st a b) in
+    (in-past-below (st .executed) s a b (c .0) (c .2 .0), in-past-below (st .executed) s b a (c .1) (c .2 .1))
 
 -- Names that stand once, all among others, are of no desk more than these.
 tally-le-once : (d : ℕ) (xs ys : List MarkId) → Once xs → ((i : MarkId) → T (has i xs) → T (has i ys)) → tally d xs ≤ tally d ys

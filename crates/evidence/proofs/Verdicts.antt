@@ -1,9 +1,9 @@
--- The verdict of two places between which there is a chain, and the counts of two with none. Assumes nothing.
+-- The verdict of two places between which there is a chain. Assumes nothing.
 use Prim.Native.Nat.{ℕ, _<_, _≤_}
 use borrow.Author.Tests.{eq-eqb, le-ltb, lt-ltb, ne-eqb}
 use mathlib.Core.Path.{_≡_}
-use Rattle.causality.specs.declared.Evidence.the-variants.{Same, Before, After, Concurrent}
-use Rattle.evidence.specs.Steps.{countsAt, verdictAt}
+use Rattle.causality.specs.declared.Evidence.the-variants.{Same, Before, After}
+use Rattle.evidence.specs.Steps.{verdictAt}
 
 pub verdict-same : (p q n : ℕ) → p ≡ q → verdictAt p q n ≡ Same n
 verdict-same p q n e = rw (eq-eqb p q e, verdictAt)
@@ -13,9 +13,3 @@ verdict-before p q n e h = rw (ne-eqb p q e, verdictAt, lt-ltb p q h)
 
 pub verdict-after : (p q n : ℕ) → (p ≡ q → ⊥) → q ≤ p → verdictAt p q n ≡ After n
 verdict-after p q n e h = rw (ne-eqb p q e, verdictAt, le-ltb p q h)
-
-pub counts-before : (p q x y : ℕ) → p < q → countsAt p q x y ≡ Concurrent x y
-counts-before p q x y h = rw (lt-ltb p q h, countsAt)
-
-pub counts-after : (p q x y : ℕ) → q ≤ p → countsAt p q x y ≡ Concurrent y x
-counts-after p q x y h = rw (le-ltb p q h, countsAt)

@@ -1,12 +1,12 @@
 -- Evidence by its ways out: a mark is at no place, the marks are apart, the lent pairs are too few, or the chain is listed. Assumes nothing.
-use Prim.Native.Nat.{_<_, _≤_, max, min, ℕ}
+use Prim.Native.Nat.{_-_, _<_, _≤_, max, min, suc, ℕ}
 use borrow.Author.Tests.{le-ltb, lt-ltb}
-use lib.Dec.{T, leb, leb→le, le→leb, ltb, ltb→lt, nltb→le, not-T}
-use lib.ListN.{getD, length, length-reverse}
+use lib.Dec.{T, ltb, ltb→lt, nltb→le}
+use lib.ListN.{length, length-reverse}
 use mathlib.Core.Bool.{Bool, false, true}
 use mathlib.Core.List.{List, reverse, reverse-reverse}
 use mathlib.Core.Logic.{_⊎_, inl, inr}
-use mathlib.Core.Path.{_∙_, _≡_, ap, subst, sym}
+use mathlib.Core.Path.{_∙_, _≡_, ap, refl, subst, sym}
 use native.Mathlib.Omega.{arith}
 use Rattle.frame.specs.Answer.{Answer, gives, refuseIf, refused}
 use Rattle.frame.specs.Mark.{MarkId}
@@ -18,8 +18,8 @@ use Rattle.causality.specs.Marks.{places, same}
 use Rattle.causality.specs.Meaning.{proving}
 use Rattle.causality.specs.State.{Mark, State, precedes}
 use Rattle.causality.specs.declared.Evidence.the-variants.{Refused}
-use Rattle.causality.proofs.EvidenceLaws.{in-past-tells}
-use Rattle.causality.proofs.Logic.{T→eq, nT→eq, or-inl, or-inr, same-refl, split}
+use Rattle.causality.proofs.EvidenceLaws.{counts-below}
+use Rattle.causality.proofs.Logic.{or-inl, or-inr, same-refl, split}
 use Rattle.causality.proofs.Reach.{Sound}
 use Rattle.executed.specs.Rows.{Finds, Lent}
 use Rattle.executed.proofs.Chain.{found-inside, found-place}
@@ -27,15 +27,18 @@ use Rattle.pairs.specs.Pairs.{ListsIf, Spare, marksOf}
 use Rattle.pairs.specs.declared.Listed.{Listed}
 use Rattle.pairs.proofs.Filled.{length-marksOf}
 use Rattle.queries.specs.Lent.{lent}
-use Rattle.queries.specs.Steps.{InPastOf, PrecedesAt}
+use Rattle.queries.specs.Steps.{PrecedesAt}
+use Rattle.queries.proofs.MadeBefore.{counted-less}
 use Rattle.queries.proofs.Relating.{relate-back, relate-forward, relate-no-first, relate-no-second, relate-same}
 use Rattle.rows.specs.View.{Carried, nameAt, namesDown, view, width}
-use Rattle.rows.proofs.Places.{found-some, has-at}
-use Rattle.concurrent.specs.Steps.{isOrFollows}
+use Rattle.rows.proofs.Places.{found-some}
+use Rattle.rows.proofs.RowSteps.{named-less}
+use Rattle.concurrent.specs.Steps.{Tells, isOrFollows}
 use Rattle.evidence.specs.Found.{EvidenceFound}
-use Rattle.evidence.specs.Steps.{GoneBack, Reversed, countsAt, verdictAt}
+use Rattle.evidence.specs.Steps.{CountsOf, GoneBack, HasMark, LowestReached, Reversed, countedBefore, verdictAt}
 use Rattle.evidence.specs.declared.EvidenceList.{EvidenceList}
-use Rattle.evidence.proofs.Verdicts.{counts-after, counts-before, verdict-after, verdict-before, verdict-same}
+use Rattle.evidence.proofs.Chains.{precedes-by-lowest}
+use Rattle.evidence.proofs.Verdicts.{verdict-after, verdict-before, verdict-same}
 
 -- BY THE VERDICT
 
@@ -98,16 +101,28 @@ module _ (ds ns ss : List ℕ) (p q : ℕ) (list : Listed) (g : GoneBack width d
   unfolding marksOf chain
   long-back = sym (length-marksOf list) ∙ ap (λ (x : List MarkId). length (reverse x)) (g .names count h bs s t) ∙ length-reverse (reverse back)
 
--- By the count of its desk's marks in the later one's past, whether the earlier mark precedes it.
-precedes-counted : (ds ns ss : List ℕ) (p q x : ℕ) → p < q → InPastOf ds ns ss q (getD ds p 0) x → PrecedesAt ds ns ss p q (leb (getD ns p 0) x)
-precedes-counted ds ns ss p q x o i count bs h s =
-    ap (leb (getD ns p 0)) (i count h bs s) ∙ sym (in-past-tells (view width count ds ns bs ss) s (nameAt ds ns p) (nameAt ds ns q) (has-at width ds ns bs ss count p (omega arith)))
+-- By the lowest entry that reaches the row, whether the mark at p precedes that at a later place.
+module _ (ds ns ss : List ℕ) (p q : ℕ) (o : p < q) (first : List ℕ) (w : Tells width ds ns ss p q first) (j : ℕ) (low : LowestReached width first ss q j) where
+  precedes-at-places : PrecedesAt ds ns ss p q (ltb j width)
+  precedes-at-places count bs h s = precedes-by-lowest width ds ns bs ss count s p q q first (omega arith) (omega arith) h w j low
 
--- There is a chain from one place to a later one: they are one, or the first one's number is among those of its desk in the other's past.
+  pub leads : j < width → PrecedesAt ds ns ss p q true
+  leads h = subst (PrecedesAt ds ns ss p q) (lt-ltb j width h) precedes-at-places
+
+  pub leads-not : width ≤ j → PrecedesAt ds ns ss p q false
+  leads-not h = subst (PrecedesAt ds ns ss p q) (le-ltb j width h) precedes-at-places
+
+-- There is a chain from one place to a later one: they are one, or the mark at the first precedes the other.
 abbrev pub Joins : List ℕ → List ℕ → List ℕ → ℕ → ℕ → Type 0
-Joins ds ns ss from to = (to ≤ from) ⊎ ((x : ℕ) × InPastOf ds ns ss to (getD ds from 0) x × (getD ns from 0 ≤ x))
+Joins ds ns ss from to = (to ≤ from) ⊎ PrecedesAt ds ns ss from to true
 
 -- LENT ARRAYS
+
+pub has-mark : (count : ℕ) (ds ns ts ls bf : List ℕ) → Lent count ds ns ts ls bf → (p : ℕ) → p < count → HasMark width ds ns p
+has-mark count ds ns ts ls bf l p h =
+    let f = l .few in
+    let e = counted-less ds ns count (suc p) (omega arith) (l .chain .counted) .0 in
+    record { within = omega arith; named = named-less width count ds (suc p) (l .named) (omega arith); made = omega arith }
 
 module _ (count : ℕ) (ds ns ss ts ls bf : List ℕ) (l : Lent count ds ns ts ls bf) (own : ℕ) (bs : ℕ → Carried) (waiting : List Mark)
     (a b : MarkId) (p q : ℕ) (fa : Finds ts ls bf a p) (fb : Finds ts ls bf b q) (room : ℕ) where
@@ -162,14 +177,11 @@ module _ (count : ℕ) (ds ns ss ts ls bf : List ℕ) (l : Lent count ds ns ts l
 
     -- The mark at i precedes that at j.
     module _ (i j : ℕ) (o : i < j) (jc : j < count) (c : Joins ds ns ss i j) where
-      before : (x : Bool) × PrecedesAt ds ns ss i j x × (x ≡ true)
-      before = elim c [
-        | inl z ↦ let w : ⊥ = omega arith in absurd w
-        | inr z ↦ (leb (getD ns i 0) (z .0), precedes-counted ds ns ss i j (z .0) o (z .1), T→eq (leb (getD ns i 0) (z .0)) (le→leb (getD ns i 0) (z .0) (z .2)))
-      ]
+      before : PrecedesAt ds ns ss i j true
+      before = elim c [ inl z ↦ let w : ⊥ = omega arith in absurd w | inr z ↦ z ]
 
       follows : T (isOrFollows (view width count ds ns bs ss) (nameAt ds ns i) (nameAt ds ns j))
-      follows = or-inr (same (nameAt ds ns i) (nameAt ds ns j)) (precedes marks (nameAt ds ns i) (nameAt ds ns j)) (rw (← before .1 count bs jc s, before .2) tt)
+      follows = or-inr (same (nameAt ds ns i) (nameAt ds ns j)) (precedes marks (nameAt ds ns i) (nameAt ds ns j)) (rw (← before count bs jc s) tt)
 
     module _ (from to : ℕ) (ef : from ≡ min p q) (et : to ≡ max p q) where
       chained : Joins ds ns ss from to → (list : Listed) → GoneBack width ds ns ss from to list → Chained list
@@ -193,24 +205,22 @@ module _ (count : ℕ) (ds ns ss ts ls bf : List ℕ) (l : Lent count ds ns ts l
               }
           go (inr (inl e)) =
               let w = at p q (omega arith) (omega arith) in
-              let x = before p q e second-in (w .1) in
               let t = follows p q e second-in (w .1) in
               let long = long-as p q second-in list (w .0) t a b first-name second-name in
               record {
                 verdict = Before;
-                related = relate-forward count ds ns ss ts ls bf l own bs waiting a b p q fa fb h k s (x .0) true (x .2) e (x .1);
+                related = relate-forward count ds ns ss ts ls bf l own bs waiting a b p q fa fb h k s true true refl e (before p q e second-in (w .1));
                 names = names-as p q second-in list (w .0) t a b first-name second-name;
                 long = long;
                 answer = ap proving (verdict-before p q (list .count) (λ z. omega arith) e) ∙ ap (λ (n : ℕ). gives (Before n)) long;
               }
           go (inr (inr e)) =
               let w = at q p (omega arith) (omega arith) in
-              let x = before q p e first-in (w .1) in
               let t = follows q p e first-in (w .1) in
               let long = long-as q p first-in list (w .0) t b a second-name first-name in
               record {
                 verdict = After;
-                related = relate-back count ds ns ss ts ls bf l own bs waiting a b p q fa fb h k s (x .0) true (x .2) e (x .1);
+                related = relate-back count ds ns ss ts ls bf l own bs waiting a b p q fa fb h k s true true refl e (before q p e first-in (w .1));
                 names = names-as q p first-in list (w .0) t b a second-name first-name;
                 long = long;
                 answer = ap proving (verdict-after p q (list .count) (λ z. omega arith) (omega arith)) ∙ ap (λ (n : ℕ). gives (After n)) long;
@@ -229,33 +239,22 @@ module _ (count : ℕ) (ds ns ss ts ls bf : List ℕ) (l : Lent count ds ns ts l
           shown state a b room (c .verdict) (c .related) r (ap proving e ∙ c .answer) (c .names (r .list) v) (omega arith) (omega arith) (v .spare)
 
       -- There is no chain: the marks are concurrent, with these counts.
-      pub evidence-concurrent : from < to → (early late : ℕ) → InPastOf ds ns ss to (getD ds from 0) early → early < getD ns from 0 → InPastOf ds ns ss from (getD ds to 0) late
-          → (r : EvidenceList) → r .answer ≡ countsAt p q early late → r .list .count ≡ 0 → Spare (r .list) → EvidenceFound (lent count ds ns ss own bs waiting) a b room r
+      pub evidence-concurrent : from < to → PrecedesAt ds ns ss from to false → (r : EvidenceList) → CountsOf width ds ns ss p q (r .answer)
+          → r .list .count ≡ 0 → Spare (r .list) → EvidenceFound (lent count ds ns ss own bs waiting) a b room r
       unfolding marksOf
-      evidence-concurrent o early late ie less il r e n = go order
+      evidence-concurrent o apart r v n =
+          shown state a b room Concurrent (go order) r (ap proving (v count first-in second-in bs s) ∙ (λ i. gives (Concurrent (first i) (second i)))) (ap (λ (c : ℕ). reverse (namesDown c (r .list .desks) (r .list .numbers))) n) (omega arith) (omega arith)
         where
-          Apart : ℕ → ℕ → Type 0
-          Apart i j = InPastOf ds ns ss j (getD ds i 0) early × (early < getD ns i 0) × InPastOf ds ns ss i (getD ds j 0) late
+          at : (i j : ℕ) → from ≡ i → to ≡ j → PrecedesAt ds ns ss i j false
+          at i j e f = subst (λ (x : ℕ). PrecedesAt ds ns ss x j false) e (subst (λ (y : ℕ). PrecedesAt ds ns ss from y false) f apart)
 
-          at : (i j : ℕ) → from ≡ i → to ≡ j → Apart i j
-          at i j e f = subst (λ (x : ℕ). Apart x j) e (subst (λ (y : ℕ). Apart from y) f (ie, less, il))
-
-          no : (i : ℕ) → early < getD ns i 0 → leb (getD ns i 0) early ≡ false
-          no i h = nT→eq (leb (getD ns i 0) early) (not-T (leb (getD ns i 0) early) (λ t. let z = leb→le (getD ns i 0) early t in omega arith))
-
-          by : (x y : ℕ) → proving (r .answer) ≡ gives (Concurrent x y) → relate (lent count ds ns ss own bs waiting) a b ≡ gives Concurrent → x ≡ inPast marks (a .desk) b → y ≡ inPast marks (b .desk) a
-              → Spare (r .list) → EvidenceFound (lent count ds ns ss own bs waiting) a b room r
-          by x y u v ex ey = shown state a b room Concurrent v r (u ∙ (λ i. gives (Concurrent (ex i) (ey i)))) (ap (λ (c : ℕ). reverse (namesDown c (r .list .desks) (r .list .numbers))) n) (omega arith) (omega arith)
-
-          go : (p ≡ q) ⊎ ((p < q) ⊎ (q < p)) → Spare (r .list) → EvidenceFound (lent count ds ns ss own bs waiting) a b room r
+          go : (p ≡ q) ⊎ ((p < q) ⊎ (q < p)) → relate (lent count ds ns ss own bs waiting) a b ≡ gives Concurrent
           go (inl z) = let w : ⊥ = omega arith in absurd w
-          go (inr (inl z)) =
-              let w = at p q (omega arith) (omega arith) in
-              by early late (ap proving (e ∙ counts-before p q early late z))
-              (relate-forward count ds ns ss ts ls bf l own bs waiting a b p q fa fb h k s (leb (getD ns p 0) early) false (no p (w .1)) z (precedes-counted ds ns ss p q early z (w .0)))
-              (w .0 count second-in bs s ∙ (λ i. inPast marks (first-name i .desk) (second-name i))) (w .2 count first-in bs s ∙ (λ i. inPast marks (second-name i .desk) (first-name i)))
-          go (inr (inr z)) =
-              let w = at q p (omega arith) (omega arith) in
-              by late early (ap proving (e ∙ counts-after p q early late (omega arith)))
-              (relate-back count ds ns ss ts ls bf l own bs waiting a b p q fa fb h k s (leb (getD ns q 0) early) false (no q (w .1)) z (precedes-counted ds ns ss q p early z (w .0)))
-              (w .2 count second-in bs s ∙ (λ i. inPast marks (first-name i .desk) (second-name i))) (w .0 count first-in bs s ∙ (λ i. inPast marks (second-name i .desk) (first-name i)))
+          go (inr (inl z)) = relate-forward count ds ns ss ts ls bf l own bs waiting a b p q fa fb h k s false false refl z (at p q (omega arith) (omega arith))
+          go (inr (inr z)) = relate-back count ds ns ss ts ls bf l own bs waiting a b p q fa fb h k s false false refl z (at q p (omega arith) (omega arith))
+
+          first : countedBefore (view width count ds ns bs ss) ds ns p q ≡ inPast (view width count ds ns bs ss) (a .desk) b
+          first = (λ i. min (first-name i .number - 1) (inPast marks (first-name i .desk) (second-name i))) ∙ (let x = counts-below state s a b (go order) .0 in omega arith)
+
+          second : countedBefore (view width count ds ns bs ss) ds ns q p ≡ inPast (view width count ds ns bs ss) (b .desk) a
+          second = (λ i. min (second-name i .number - 1) (inPast marks (second-name i .desk) (first-name i))) ∙ (let x = counts-below state s a b (go order) .1 in omega arith)

@@ -2,17 +2,18 @@
 use mathlib.Core.Bool.{Bool, true, false, _&&_}
 use mathlib.Core.List.{List, _∷_, reverse}
 use mathlib.Core.Path.{_≡_}
-use Prim.Native.Nat.{ℕ, suc, _+_, _*_, _≤_, _<_}
+use Prim.Native.Nat.{ℕ, suc, min, _+_, _-_, _*_, _≤_, _<_}
 use lib.Dec.{T, eqb, leb, ltb}
 use lib.ListN.{getD}
 use Rattle.frame.specs.Mark.{MarkId}
-use Rattle.causality.specs.Evidence.{goingBack}
+use Rattle.causality.specs.Evidence.{goingBack, inPast}
 use Rattle.causality.specs.Marks.{places}
+use Rattle.causality.specs.State.{Mark}
 use Rattle.causality.specs.declared.Evidence.{Evidence}
 use Rattle.causality.specs.declared.Evidence.the-variants.{Same, Before, After, Concurrent}
 use Rattle.pairs.specs.Pairs.{Spare}
 use Rattle.pairs.specs.declared.Listed.{Listed}
-use Rattle.rows.specs.View.{nameAt, namesDown}
+use Rattle.rows.specs.View.{Named, nameAt, namesDown}
 use Rattle.concurrent.specs.Steps.{Tells, isOrFollows}
 use Rattle.queries.specs.Lent.{OfMarks}
 
@@ -59,6 +60,16 @@ pub record Reversed (list r : Listed) : Type 0 where
 abbrev pub verdictAt : ℕ → ℕ → ℕ → Evidence
 verdictAt p q n = elim (eqb p q) [ true ↦ Same n | false ↦ elim (ltb p q) [ true ↦ Before n | false ↦ After n ] ]
 
--- The counts of two places with no chain between: that of the earlier mark's desk first where it is at p.
-abbrev pub countsAt : ℕ → ℕ → ℕ → ℕ → Evidence
-countsAt p q early late = elim (ltb p q) [ true ↦ Concurrent early late | false ↦ Concurrent late early ]
+-- A mark stands at place p: its number is of a first one or a later, and the desks up to there are desks.
+pub record HasMark (n : ℕ) (ds ns : List ℕ) (p : ℕ) : Type 0 where
+  pub within : p < places
+  pub named : Named n (suc p) ds
+  pub made : 1 ≤ getD ns p 0
+
+-- How many marks of the desk of that at p precede that at q, of those made before it.
+abbrev pub countedBefore : List Mark → List ℕ → List ℕ → ℕ → ℕ → ℕ
+countedBefore l ds ns p q = min (getD ns p 0 - 1) (inPast l (getD ds p 0) (nameAt ds ns q))
+
+-- The counts of the marks at two places.
+abbrev pub CountsOf : ℕ → List ℕ → List ℕ → List ℕ → ℕ → ℕ → Evidence → Type 0
+CountsOf n ds ns ss p q r = (count : ℕ) → p < count → q < count → OfMarks n count ds ns ss (λ l. r ≡ Concurrent (countedBefore l ds ns p q) (countedBefore l ds ns q p))

@@ -7,7 +7,7 @@ ghost use Rattle.causality.specs.Meaning.{idOf};
 ghost use Rattle.concurrent.specs.Steps.{Tells};
 ghost use Rattle.evidence.specs.Found.{EvidenceFound};
 ghost use Rattle.evidence.specs.Steps.{LowestReached, PlaceBelow, SteppedBack};
-ghost use Rattle.evidence.specs.Steps.{GoneBack, Reversed, countsAt, slots, verdictAt};
+ghost use Rattle.evidence.specs.Steps.{CountsOf, GoneBack, HasMark, Reversed, slots, verdictAt};
 ghost use Rattle.pairs.specs.Pairs.{Spare};
 ghost use Rattle.queries.specs.Lent.{HasLent, OfEach};
 ghost use Rattle.rows.specs.View.{width};
@@ -19,7 +19,7 @@ use concurrent::reaches;
 use frame::Number;
 use frame::Refusal;
 use pairs::Listed;
-use queries::first_apart::in_past;
+use queries::in_past::in_past;
 use rows::PLACES;
 use rows::WIDTH;
 
@@ -148,14 +148,22 @@ fn verdict(p: usize, q: usize, length: usize) -> Evidence
     Evidence::After(length)
 }
 
-// The counts behind Concurrent of two places: of the earlier mark's desk in the later one's past, and the other way.
-fn counts(p: usize, q: usize, early: u16, late: u16) -> Evidence
-    ensures { λ r. ⌜ r ≡ countsAt p q early late ⌝ }
+// The counts behind Concurrent: for each of two marks how many of its desk precede the other. The mark itself does not, so those before it are asked for.
+fn counts<'a>(
+    desks: &'a [u8; PLACES],
+    numbers: &'a [u16; PLACES],
+    stamps: &'a [u16; PLACES * WIDTH],
+    p: Place,
+    q: Place,
+) -> Evidence
+    requires { ⌜ HasMark width (now desks) (now numbers) (p .0) × HasMark width (now desks) (now numbers) (q .0) ⌝ }
+    ensures { λ r. ⌜ CountsOf width (now (desks .entry)) (now (numbers .entry)) (now (stamps .entry)) (p .0) (q .0) r ⌝ }
 {
-    if p < q {
-        return Evidence::Concurrent(early, late);
-    }
-    Evidence::Concurrent(late, early)
+    let i = p.0;
+    let j = q.0;
+    let first = in_past(desks, numbers, stamps, q, desks[i], numbers[i] - 1);
+    let second = in_past(desks, numbers, stamps, p, desks[j], numbers[j] - 1);
+    Evidence::Concurrent(first, second)
 }
 
 // An answer with no chain: a refusal, or Concurrent.
@@ -226,14 +234,12 @@ pub fn evidence_list<'a>(
     }
     let from = lower(p, q);
     let to = higher(p, q);
+    let first = first_followers(desks, numbers, stamps, Place(from), Place(to));
     if from < to {
-        let early = in_past(desks, numbers, stamps, tally, last, Place(to), desks[from]);
-        if early < numbers[from] {
-            let late = in_past(desks, numbers, stamps, tally, last, Place(from), desks[to]);
-            return alone(counts(p, q, early, late));
+        if WIDTH <= lowest_entry(stamps, &first, Place(to)) {
+            return alone(counts(desks, numbers, stamps, Place(p), Place(q)));
         }
     }
-    let first = first_followers(desks, numbers, stamps, Place(from), Place(to));
     let mut ds = [0u8; PLACES];
     let mut ns = [0u16; PLACES];
     let length = going_back(

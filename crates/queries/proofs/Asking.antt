@@ -36,7 +36,7 @@ module _ (n : ℕ) (ds ns : List ℕ) (bs : ℕ → Carried) (ss : List ℕ) (i 
     told-none out = let p = h in lt-leb (i .number) (rowFn row (i .desk)) h ∙ sym (reach-end n ds ns bs ss i at at row h (omega arith) s out (omega arith))
 
   -- Where an ask ends the row tells: a mark that is not among those before the place is reached only if the row counts it.
-  told-ended : Sound (view n at ds ns bs ss) → endsAt ds ns i at (rowFn row (i .desk)) ≡ true → Told
+  pub told-ended : Sound (view n at ds ns bs ss) → endsAt ds ns i at (rowFn row (i .desk)) ≡ true → Told
   told-ended s e = elim (split (leb (i .number) (rowFn row (i .desk)))) [
     | inl t ↦ told-counted (leb→le (i .number) (rowFn row (i .desk)) t)
     | inr t ↦

@@ -1,8 +1,9 @@
--- How many marks of a desk precede a mark: those of a first run. Assumes nothing.
-use Prim.Native.Nat.{_<_, _≤_, min, suc, ℕ}
-use borrow.Author.Tests.{eqb-true}
-use lib.Dec.{T, eqb, leb, leb→le, nleb→lt}
-use mathlib.Core.Bool.{Bool, cond, false, true}
+-- How many marks of a desk a row reaches, and so how many precede a mark. n: how many desks. Assumes nothing.
+use Prim.Native.Nat.{_*_, _+_, _-_, _<_, _≤_, min, suc, ℕ}
+use borrow.Author.Tests.{eqb-true, lt-leb, lt-ltb}
+use lib.Dec.{T, eqb, leb, leb→le, nleb→lt, not-T}
+use lib.ListN.{getD}
+use mathlib.Core.Bool.{Bool, cond, false, or-true, true}
 use mathlib.Core.List.{List, [], _∷_}
 use mathlib.Core.Logic.{inl, inr}
 use mathlib.Core.Path.{_∙_, _≡_, ap, refl, sym}
@@ -12,13 +13,17 @@ use Rattle.causality.specs.Evidence.{inPast}
 use Rattle.causality.specs.Marks.{has, keep, same, tally}
 use Rattle.causality.specs.State.{Mark, ids, precedes}
 use Rattle.causality.proofs.Lists.{has-self}
-use Rattle.causality.proofs.Logic.{bool-ext, or-inr, split}
-use Rattle.causality.proofs.Past.{Counted, prefix-has, prefix-le}
-use Rattle.causality.proofs.Reach.{Sound, local-hist, local-precedes, sound-counted}
-use Rattle.rows.specs.View.{Carried, nameAt, namesDown, view}
-use Rattle.rows.proofs.Arrays.{sound-below}
-use Rattle.rows.proofs.Places.{has-more, ids-names, precedes-there}
-use Rattle.queries.specs.Steps.{FirstRunAt}
+use Rattle.causality.proofs.Logic.{nT→eq, or-inr, split}
+use Rattle.causality.proofs.Past.{Counted, prefix-le}
+use Rattle.causality.proofs.Reach.{Sound, sound-counted}
+use Rattle.causality.proofs.RowLaws.{show, under-out, under-up}
+use Rattle.rows.specs.View.{Carried, Named, nameAt, namesDown, rowAt, rowFn, view}
+use Rattle.rows.proofs.Arrays.{follows-below, sound-below}
+use Rattle.rows.proofs.Places.{has-more, ids-names}
+use Rattle.queries.proofs.Asking.{told-ended}
+use Rattle.queries.proofs.MadeBefore.{met, none-yet, own-less}
+use Rattle.queries.proofs.PastRow.{reached-counts}
+use Rattle.queries.proofs.Reaching.{reach-passed, reached}
 
 -- Of desk d's marks those up to r pass: as many as there are of them.
 tally-run : (d r : ℕ) (p : MarkId → Bool) (is : List MarkId) → Counted is → ((i : MarkId) → T (has i is) → i .desk ≡ d → p i ≡ leb (i .number) r)
@@ -49,43 +54,86 @@ tally-run d r p (i ∷ is) c f = go (eqb d (i .desk)) refl (p i) refl (tally-run
     go false e true g ih = rw (e, tally) ih
     go false e false g ih = ih
 
-module _ (n : ℕ) (ds ns : List ℕ) (bs : ℕ → Carried) (ss : List ℕ) (count p : ℕ) (h : p < count) (s : Sound (view n count ds ns bs ss)) where
-  -- What precedes a mark stands before it.
-  past-before : (i : MarkId) → T (precedes (view n count ds ns bs ss) i (nameAt ds ns p)) → T (has i (namesDown p ds ns))
-  unfolding view
-  past-before i t =
-      let below = sound-below n count ds ns bs ss s (suc p) h in
-      rw (← ids-names n ds ns bs ss p) (local-hist (view n (suc p) ds ns bs ss) below .0 .behind i
-      (rw (local-precedes (view n (suc p) ds ns bs ss) below i (nameAt ds ns p), ← precedes-there n ds ns bs ss count p s h i) t))
+module _ (n : ℕ) (ds ns : List ℕ) (bs : ℕ → Carried) (ss : List ℕ) where
+  -- A ROW THAT IS FOLLOWED
 
-  pub in-past-run : (d t r : ℕ) → t ≡ tally d (namesDown p ds ns) → r ≤ t → FirstRunAt n ds ns ss p d t r → r ≡ inPast (view n count ds ns bs ss) d (nameAt ds ns p)
-  unfolding inPast
-  in-past-run d t r e few run = let m = there in omega arith ∙ sym (tally-run d r (λ i. precedes l i (nameAt ds ns p)) (ids l) c passes)
-    where
-      l : List Mark
-      l = view n count ds ns bs ss
+  module _ (d : ℕ) (lo : 1 ≤ d) (most : ℕ) (row : List ℕ) (at : ℕ) where
+    -- It counts as many as are asked for.
+    pub counts-all : most ≤ rowFn row d → most ≡ min most (reached n ds ns bs ss at row d)
+    counts-all h = let u = under-up (view n at ds ns bs ss) (λ d. 0) (rowFn row) d in omega arith
 
-      c : Counted (ids l)
-      c = sound-counted l s
+    module _ (h : rowFn row d < most) where
+      -- No mark is left.
+      pub counts-last : at ≡ 0 → rowFn row d ≡ min most (reached n ds ns bs ss at row d)
+      unfolding view
+      counts-last e = rw e (omega arith)
 
-      below : Counted (namesDown p ds ns)
-      below = rw (← ids-names n ds ns bs ss p) (sound-counted (view n p ds ns bs ss) (sound-below n count ds ns bs ss s p (omega arith)))
+      -- From there it counts none more.
+      counts-no-more : leb (suc (rowFn row d)) (rowFn row d) ≡ leb (suc (rowFn row d)) (reached n ds ns bs ss at row d) → rowFn row d ≡ min most (reached n ds ns bs ss at row d)
+      counts-no-more e =
+          let u = under-up (view n at ds ns bs ss) (λ d. 0) (rowFn row) d in
+          let v = nleb→lt (suc (rowFn row d)) (reached n ds ns bs ss at row d) (rw (← e, lt-leb (suc (rowFn row d)) (rowFn row d) (omega arith)) tt) in
+          omega arith
 
-      there : r ≤ tally d (ids l)
-      there = elim (split (leb 1 r)) [
-        | inl v ↦
-            let i : MarkId = record { desk = d; number = r } in
-            let x = prefix-has (namesDown p ds ns) below i (leb→le 1 r v) (omega arith) in
-            (prefix-le (ids l) c i (has-more n ds ns bs ss p count (omega arith) i (rw (ids-names n ds ns bs ss p) x))) .1
-        | inr v ↦ let x = nleb→lt 1 r v in omega arith
-      ]
+      -- The desk's first mark that it does not count is met, or one before.
+      pub counts-met : Sound (view n at ds ns bs ss) → 0 < at → getD ds (at - 1) 0 ≡ d → getD ns (at - 1) 0 ≤ rowFn row d + 1 → rowFn row d ≡ min most (reached n ds ns bs ss at row d)
+      counts-met s z e l = counts-no-more (elim (split (leb (getD ns (at - 1) 0) (rowFn row d))) [
+        | inl t ↦
+            let v = leb→le (getD ns (at - 1) 0) (rowFn row d) t in
+            let k = number in
+            told-ended n ds ns bs ss next row at s (rw (lt-ltb (tally d (namesDown at ds ns)) (suc (rowFn row d)) (omega arith)) (or-true (leb (suc (rowFn row d)) (rowFn row d))))
+        | inr t ↦
+            let v = nleb→lt (getD ns (at - 1) 0) (rowFn row d) t in
+            let k = number in
+            let m = own-less ds ns d at z e (tally d (namesDown at ds ns)) refl in
+            told-ended n ds ns bs ss next row (at - 1) (sound-below n at ds ns bs ss s (at - 1) (omega arith))
+            (rw (lt-ltb (tally d (namesDown (at - 1) ds ns)) (suc (rowFn row d)) (omega arith)) (or-true (leb (suc (rowFn row d)) (rowFn row d))))
+            ∙ ap (leb (suc (rowFn row d))) (reach-passed n ds ns bs ss at row z (rw e v) d lo)
+      ])
+        where
+          next : MarkId
+          next = record { desk = d; number = suc (rowFn row d) }
 
-      passes : (i : MarkId) → T (has i (ids l)) → i .desk ≡ d → precedes l i (nameAt ds ns p) ≡ leb (i .number) r
-      passes i u q = elim (split (leb (i .number) t)) [
-        | inl v ↦ ap (λ (x : ℕ). precedes l (record { desk = x; number = i .number }) (nameAt ds ns p)) q ∙ run count bs h s (i .number) ((prefix-le (ids l) c i u) .0) (leb→le (i .number) t v)
-        | inr v ↦
-            let w = nleb→lt (i .number) t v in
-            bool-ext (precedes l i (nameAt ds ns p)) (leb (i .number) r)
-            (λ x. let y = (prefix-le (namesDown p ds ns) below i (past-before i x)) .1 in let z : i .number ≤ tally d (namesDown p ds ns) = rw q at y in let o : ⊥ = omega arith in absurd o)
-            (λ x. let y = leb→le (i .number) r x in let o : ⊥ = omega arith in absurd o)
-      ]
+          number : getD ns (at - 1) 0 ≡ tally d (namesDown at ds ns)
+          number = met ds ns d at at (none-yet ds ns d at) z e (rw (← ids-names n ds ns bs ss at) (sound-counted (view n at ds ns bs ss) s))
+
+  -- THE PAST OF A MARK
+
+  module _ (count p : ℕ) (h : p < count) (named : Named n p ds) (s : Sound (view n count ds ns bs ss)) (row : List ℕ) (er : (j : ℕ) → j < n → getD row j 0 ≡ getD ss (p * n + j) 0)
+      (d : ℕ) (lo : 1 ≤ d) (hi : d ≤ n) where
+    abbrev l : List Mark
+    l = view n count ds ns bs ss
+
+    c : Counted (ids (view n count ds ns bs ss))
+    c = sound-counted l s
+
+    -- An entry of its stamp is a mark.
+    entry-few : rowFn row d ≤ tally d (ids (view n count ds ns bs ss))
+    entry-few = elim (split (leb 1 (rowAt n ss p d))) [
+      | inl t ↦
+          let e : MarkId = record { desk = d; number = rowAt n ss p d } in
+          let u = show (rowAt n ss p) 1 n e (record { low = lo; high = omega arith; value = refl; pos = leb→le 1 (rowAt n ss p d) t }) in
+          let v = (prefix-le (ids l) c e (has-more n ds ns bs ss p count (omega arith) e (follows-below n count ds ns bs ss s p h .listed e u))) .1 in
+          let w = er (d - 1) (omega arith) in
+          omega arith
+      | inr t ↦ let v = nleb→lt 1 (rowAt n ss p d) t in let w = er (d - 1) (omega arith) in omega arith
+    ]
+
+    -- It has no more marks of a desk than there are.
+    few : reached n ds ns bs ss p row d ≤ tally d (ids (view n count ds ns bs ss))
+    few = elim (split (leb (suc (tally d (ids l))) (reached n ds ns bs ss p row d))) [
+      | inl t ↦
+          let i : MarkId = record { desk = d; number = suc (tally d (ids l)) } in
+          let out : T (has i (ids (view n p ds ns bs ss))) → ⊥ = λ u. let v = (prefix-le (ids l) c i (has-more n ds ns bs ss p count (omega arith) i u)) .1 in let z : ⊥ = omega arith in z in
+          let e = under-out (view n p ds ns bs ss) (sound-below n count ds ns bs ss s p (omega arith)) (λ d. 0) (rowFn row) i (omega arith) (nT→eq (has i (ids (view n p ds ns bs ss))) (not-T (has i (ids (view n p ds ns bs ss))) out)) in
+          let v = leb→le (suc (tally d (ids l))) (rowFn row d) (rw e at t) in
+          let r = entry-few in
+          let z : ⊥ = omega arith in absurd z
+      | inr t ↦ let v = nleb→lt (suc (tally d (ids l))) (reached n ds ns bs ss p row d) t in omega arith
+    ]
+
+    -- What the row of its stamp reaches at a desk is how many marks of that desk precede it.
+    pub in-past-reached : reached n ds ns bs ss p row d ≡ inPast (view n count ds ns bs ss) d (nameAt ds ns p)
+    unfolding inPast
+    in-past-reached = let x = few in omega arith ∙ sym (tally-run d (reached n ds ns bs ss p row d) (λ i. precedes l i (nameAt ds ns p)) (ids l) c
+        (λ i t e. reached-counts n ds ns bs ss count p h named s row er i (omega arith) (omega arith) ((prefix-le (ids l) c i t) .0) ∙ ap (λ (x : ℕ). leb (i .number) (reached n ds ns bs ss p row x)) e))

@@ -40,7 +40,7 @@ module _ (ds ns : List ℕ) where
   names-last (suc k) z = rw (sub-one (suc k)) refl
 
   -- Of counted names the first are counted.
-  counted-less : (count p : ℕ) → p ≤ count → Counted (namesDown count ds ns) → Counted (namesDown p ds ns)
+  pub counted-less : (count p : ℕ) → p ≤ count → Counted (namesDown count ds ns) → Counted (namesDown p ds ns)
   counted-less zero p h c = let e : 0 ≡ p = omega arith in subst (λ (x : ℕ). Counted (namesDown x ds ns)) e c
   counted-less (suc k) p h c = elim (split (ltb k p)) [
     | inl t ↦ let o = ltb→lt k p t in let e : suc k ≡ p = omega arith in subst (λ (x : ℕ). Counted (namesDown x ds ns)) e c

@@ -1,6 +1,6 @@
 -- What lent arrays of executed marks say: of every desk that may lend them.
 use mathlib.Core.List.{List}
-use Prim.Native.Nat.{ℕ, _<_}
+use Prim.Native.Nat.{ℕ}
 use Rattle.causality.specs.State.{Mark, State}
 use Rattle.causality.proofs.Reach.{Sound}
 use Rattle.executed.specs.Arrays.{Lending}
@@ -15,13 +15,6 @@ lent count ds ns ss own bs waiting = record { own = own; executed = view width c
 pub record HasLent (ds ns ts ls bf : List ℕ) : Type 0 where
   pub count : ℕ
   pub marks : Lent count ds ns ts ls bf
-
--- Such arrays (desks, numbers, tally, last) have a mark at place p.
-pub record HasPlace (ds ns ts ls : List ℕ) (p : ℕ) : Type 0 where
-  pub count : ℕ
-  pub before : List ℕ
-  pub marks : Lent count ds ns ts ls before
-  pub inside : p < count
 
 -- P holds of every list of so many executed marks that these arrays (desks, numbers, stamps) may be. n: how many desks.
 abbrev pub OfMarks : ℕ → ℕ → List ℕ → List ℕ → List ℕ → (List Mark → Type 0) → Type 0

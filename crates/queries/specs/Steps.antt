@@ -75,6 +75,11 @@ pub record SearchedOf (ds ns ss : List ℕ) (p d t : ℕ) (r : Searched) : Type 
   pub asks : (count : ℕ) (bs : ℕ → Carried) → p < count → Sound (view width count ds ns bs ss)
       → r .asks ≡ length (halving (numberPrecedes width count ds ns bs ss p d) mostAsks (min (rowAt width ss p d) t) t)
 
--- So many marks of desk d precede that at place p, however many marks there are.
-abbrev pub InPastOf : List ℕ → List ℕ → List ℕ → ℕ → ℕ → ℕ → Type 0
-InPastOf ds ns ss p d r = (count : ℕ) → p < count → OfMarks width count ds ns ss (λ l. r ≡ inPast l d (nameAt ds ns p))
+-- To so many marks of desk d, at most `most`, entries lead from a row and the marks before a place.
+abbrev pub LeadsTo : List ℕ → List ℕ → List ℕ → List ℕ → ℕ → ℕ → ℕ → ℕ → Type 0
+LeadsTo ds ns ss row at d most r = (bs : ℕ → Carried) → Sound (view width at ds ns bs ss)
+    → r ≡ min most (under (view width at ds ns bs ss) (λ d. 0) (rowFn row) d)
+
+-- So many marks of desk d, at most `most`, precede that at place p, however many marks there are.
+abbrev pub InPastTo : List ℕ → List ℕ → List ℕ → ℕ → ℕ → ℕ → ℕ → Type 0
+InPastTo ds ns ss p d most r = (count : ℕ) → p < count → OfMarks width count ds ns ss (λ l. r ≡ min most (inPast l d (nameAt ds ns p)))

@@ -1,4 +1,4 @@
-// First apart: the lowest number of a desk's marks that were executed before a mark and are concurrent with it; and how many of them precede it.
+// First apart: the lowest number of a desk's marks that were executed before a mark and are concurrent with it.
 ghost use mathlib.Core.Path.{_≡_};
 ghost use Prim.Native.Nat.{min, _≤_, _<_};
 ghost use lib.ListN.{length};
@@ -7,8 +7,8 @@ ghost use Rattle.causality.specs.Marks.{places, tally};
 ghost use Rattle.causality.specs.Meaning.{idOf, lowestGiven};
 ghost use Rattle.rows.specs.View.{width, Named, namesDown};
 ghost use Rattle.queries.specs.Halving.{mostAsks};
-ghost use Rattle.queries.specs.Lent.{HasLent, HasPlace, OfEach};
-ghost use Rattle.queries.specs.Steps.{AskedOf, InPastOf, MadeBefore, SearchedOf};
+ghost use Rattle.queries.specs.Lent.{HasLent, OfEach};
+ghost use Rattle.queries.specs.Steps.{AskedOf, MadeBefore, SearchedOf};
 use causality::Lowest;
 use causality::MarkId;
 use causality::Place;
@@ -132,24 +132,6 @@ fn search<'a>(
         asks += 1;
     }
     Searched { precede: low, asks }
-}
-
-// How many marks of a desk precede the mark at place p.
-pub fn in_past<'a>(
-    desks: &'a [u8; PLACES],
-    numbers: &'a [u16; PLACES],
-    stamps: &'a [u16; PLACES * WIDTH],
-    tally: &'a [u16; WIDTH],
-    last: &'a [u16; WIDTH],
-    p: Place,
-    desk: u8,
-) -> u16
-    requires { ⌜ HasPlace (now desks) (now numbers) (now tally) (now last) (p .0) × (1 ≤ desk) × (desk ≤ width) ⌝ }
-    ensures { λ r. ⌜ InPastOf (now (desks .entry)) (now (numbers .entry)) (now (stamps .entry)) (p .0) desk r ⌝ }
-{
-    let made = made_before(desks, numbers, tally, last, desk, p);
-    let run = search(desks, numbers, stamps, p, desk, made);
-    run.precede
 }
 
 pub fn first_apart<'a>(

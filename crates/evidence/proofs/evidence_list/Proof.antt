@@ -7,9 +7,9 @@ use native.Mathlib.Omega.{arith}
 use Rattle.causality.specs.Marks.{places}
 use Rattle.executed.proofs.Chain.{found-inside}
 use Rattle.rows.specs.View.{width}
-use Rattle.rows.proofs.RowSteps.{named-at, named-less}
+use Rattle.rows.proofs.RowSteps.{named-less}
 use Rattle.rows.proofs.Slots.{zero-all}
-use Rattle.evidence.proofs.Ways.{Joins, evidence-concurrent, evidence-no-first, evidence-no-second, evidence-shown, evidence-too-short}
+use Rattle.evidence.proofs.Ways.{Joins, evidence-concurrent, evidence-no-first, evidence-no-second, evidence-shown, evidence-too-short, has-mark, leads, leads-not}
 use Rattle.evidence.proofs.evidence_list.Statement.{statement}
 use Rattle.evidence.proofs.evidence_list.Tie as tie
 
@@ -25,74 +25,67 @@ returns-2 c count own bs waiting l sound =
     let r = c .alone2 .ensures in
     evidence-no-second _ _ _ _ _ _ _ l own bs waiting _ _ _ _ (f .before .find .ensures) (f .find2 .ensures) _ (c .before .if2 .taken) (c .alone2 .result) (r .0) (r .1) (r .2)
 
--- Both marks stand at places: the earlier below the later or at one with it, and both below the count, which is at most that of the places.
-within : (c : tie.After-higher) → let e = c .before .before in let n = e .before .before .before .before .pre .count in
-    (c .before .lower .result ≤ c .higher .result) × (c .before .lower .result < n) × (c .higher .result < n) × (n ≤ places)
-within c =
+-- Both marks stand at places below the count.
+found : (c : tie.After-higher) → let e = c .before .before in let f = e .before .before in let n = f .before .before .pre .count in (f .before .find .result < n) × (f .find2 .result < n)
+found c =
     let e = c .before .before in
     let f = e .before .before in
     let m = f .before .before .pre .marks in
-    let p = found-inside _ _ _ _ _ _ m _ _ (f .before .find .ensures) (e .before .if1 .left) in
-    let q = found-inside _ _ _ _ _ _ m _ _ (f .find2 .ensures) (e .if2 .left) in
+    (found-inside _ _ _ _ _ _ m _ _ (f .before .find .ensures) (e .before .if1 .left), found-inside _ _ _ _ _ _ m _ _ (f .find2 .ensures) (e .if2 .left))
+
+-- The earlier stands below the later or at one with it, and the count is at most that of the places.
+within : (c : tie.After-higher) → let n = c .before .before .before .before .before .before .pre .count in
+    (c .before .lower .result ≤ c .higher .result) × (c .higher .result < n) × (n ≤ places)
+within c =
     let lo = c .before .lower .ensures in
     let hi = c .higher .ensures in
-    (omega arith, omega arith, omega arith, m .few)
+    let w = found c in
+    let p = w .0 in
+    let q = w .1 in
+    (omega arith, omega arith, c .before .before .before .before .before .before .pre .marks .few)
 
-in-past-requires : tie.Need-in-past-requires
-in-past-requires c κs =
-    let h = c .before .before in
-    let s = h .before .before .before .before .before .before in
-    let m = s .pre .marks in
-    let w = within h in
-    let d = named-at width _ _ _ (m .named) (w .1) in
-    (record { count = s .pre .count; before = _; marks = m; inside = w .2 }, d .0, d .1)
+first-followers-requires : tie.Need-first-followers-requires
+first-followers-requires c κs = let w = within c in (w .0, omega (arith, w .1, w .2), named-less width _ _ _ (c .before .before .before .before .before .before .pre .marks .named) (omega (arith, w .1)))
 
-in-past-requires-2 : tie.Need-in-past-requires-2
-in-past-requires-2 c κs =
-    let h = c .before .before .before .before .before .before in
-    let s = h .before .before .before .before .before .before in
-    let m = s .pre .marks in
-    let w = within h in
-    let d = named-at width _ _ _ (m .named) (w .2) in
-    (record { count = s .pre .count; before = _; marks = m; inside = w .1 }, d .0, d .1)
+lowest-entry-requires : tie.Need-lowest-entry-requires
+lowest-entry-requires c κs = let w = within (c .before .before .before) in omega (arith, w .1, w .2)
+
+counts-requires : tie.Need-counts-requires
+counts-requires c κs =
+    let h = c .before .before .before .before .before in
+    let m = h .before .before .before .before .before .before .pre .marks in
+    let w = found h in
+    (has-mark _ _ _ _ _ _ m _ (w .0), has-mark _ _ _ _ _ _ m _ (w .1))
 
 returns-3 : tie.Need-returns-3
 returns-3 c count own bs waiting l sound =
-    let y = c .before .before in
-    let t = y .before .before in
-    let x = t .before .before in
-    let n = x .before .before in
-    let h = n .before in
+    let t = c .before .before in
+    let j = t .before in
+    let u = j .before .before in
+    let h = u .before .before in
     let e = h .before .before in
     let f = e .before .before in
     let r = c .alone3 .ensures in
-    let v = t .if4 .taken in
     evidence-concurrent _ _ _ _ _ _ _ l own bs waiting _ _ _ _ (f .before .find .ensures) (f .find2 .ensures) _ (e .before .if1 .left) (e .if2 .left) sound _ _ (h .before .lower .ensures) (h .higher .ensures)
-    (n .if3 .taken) _ _ (x .in-past .ensures) (omega arith) (y .in-past2 .ensures) (c .alone3 .result) (r .0 ∙ c .before .counts .ensures) (r .1) (r .2)
-
-first-followers-requires : tie.Need-first-followers-requires
-first-followers-requires c κs =
-    let h = c .before in
-    let m = h .before .before .before .before .before .before .pre .marks in
-    let w = within h in
-    (w .0, omega (arith, w .2, w .3), named-less width _ _ _ (m .named) (omega (arith, w .2)))
+    (u .if3 .taken) (leads-not _ _ _ _ _ (u .if3 .taken) _ (u .before .first-followers .ensures) _ (j .lowest-entry .ensures) (t .if4 .taken)) (c .alone3 .result)
+    (λ count p q bs s. r .0 ∙ c .before .counts .ensures count p q bs s) (r .1) (r .2)
 
 going-back-requires : tie.Need-going-back-requires
 going-back-requires c κs =
-    let n = c .before .before .before in
-    let w = within (n .before .before) in
-    (w .0, omega (arith, w .2, w .3), n .first-followers .ensures, record { desks = zero-all places 0; numbers = zero-all places 0 })
+    let n = c .before .before .before .before in
+    let w = within (n .before) in
+    (w .0, omega (arith, w .1, w .2), n .first-followers .ensures, record { desks = zero-all places 0; numbers = zero-all places 0 })
 
--- Where the counts do not say that the marks are concurrent, the one leads to the other.
-joins : (c : tie.Joined3) → let h = c .before in let a = h .before .before .before .before .before .before .args in
+-- Where the marks are not told to be concurrent, the one leads to the other.
+joins : (c : tie.Joined3) → let h = c .before .before in let a = h .before .before .before .before .before .before .args in
     Joins (a .desks .now) (a .numbers .now) (a .stamps .now) (h .before .lower .result) (h .higher .result)
-joins c = ⊎-elim (λ w. inr (_, w .2 .ensures, w .4 .left)) (λ w. inl (w .left)) (c .if3 .came)
+joins c = ⊎-elim (λ w. inr (leads _ _ _ _ _ (w .0 .taken) _ (c .before .first-followers .ensures) _ (w .2 .ensures) (w .3 .left))) (λ w. inl (w .left)) (c .if3 .came)
 
 returns-4 : tie.Need-returns-4
 returns-4 c count own bs waiting l sound =
     let g = c .before .before in
-    let j = g .before .before .before .before .before in
-    let h = j .before in
+    let j = g .before .before .before .before in
+    let h = j .before .before in
     let e = h .before .before in
     let f = e .before .before in
     let r = c .alone4 .ensures in
@@ -105,14 +98,14 @@ shown-requires c κs =
     let g = c .before .before .before .before in
     let w = within (g .before .before .before .before .before .before) in
     let few = g .going-back .ensures .few in
-    omega (arith, w .2, w .3)
+    omega (arith, w .1, w .2)
 
 returns-5 : tie.Need-returns-5
 returns-5 c count own bs waiting l sound =
     let u = c .before .before .before .before in
     let g = u .before in
-    let j = g .before .before .before .before .before in
-    let h = j .before in
+    let j = g .before .before .before .before in
+    let h = j .before .before in
     let e = h .before .before in
     let f = e .before .before in
     let r = c .shown .ensures in
@@ -132,16 +125,11 @@ evidence-list-spec =
     returns-2
     (λ c κs. search needs)
     (λ c κs. search needs)
-    (λ c. let w = within (c .before) in omega (arith, w .1, w .3))
-    in-past-requires
-    (λ c. let w = within (c .before .before .before) in record { fits = omega (arith, w .1, w .3) })
-    (λ c. let w = within (c .before .before .before) in omega (arith, w .1, w .3))
-    (λ c. let w = within (c .before .before .before .before .before) in omega (arith, w .2, w .3))
-    in-past-requires-2
-    (λ c κs. search needs)
+    first-followers-requires
+    lowest-entry-requires
+    counts-requires
     (λ c κs. search needs)
     returns-3
-    first-followers-requires
     going-back-requires
     (λ c κs. search needs)
     returns-4
