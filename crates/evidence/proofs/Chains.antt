@@ -13,8 +13,8 @@ use Rattle.frame.specs.Mark.{MarkId}
 use Rattle.causality.specs.Evidence.{entryTowards, goingBack}
 use Rattle.causality.specs.Marks.{has, same}
 use Rattle.causality.specs.State.{Mark, precedes}
-use Rattle.causality.proofs.Apart.{reached-by-row, reaches, someFollower}
-use Rattle.causality.proofs.Lists.{any-cong, any-find}
+use Rattle.causality.proofs.Apart.{reaches}
+use Rattle.causality.proofs.Lists.{any-find}
 use Rattle.causality.proofs.Logic.{T→eq, and-fst, and-snd, nT→eq, or-cases, same-refl, same→eq, split}
 use Rattle.causality.proofs.Reach.{Sound, not-new, precedes-at}
 use Rattle.causality.proofs.RowLaws.{entriesOfRow, show, shown}
@@ -24,7 +24,7 @@ use Rattle.rows.proofs.Places.{has-at, ids-names, not-before, precedes-no-earli
 use Rattle.concurrent.specs.Steps.{Tells, isOrFollows}
 use Rattle.concurrent.proofs.ByPlaces.{follows-there, name-place}
 use Rattle.evidence.specs.Steps.{LowestReached, PlaceBelow, reachedAt}
-use Rattle.evidence.proofs.LowestEntry.{lowest-at, lowest-none, some-below}
+use Rattle.evidence.proofs.LowestEntry.{lowest-at, lowest-none}
 
 module _ (n : ℕ) (ds ns : List ℕ) (bs : ℕ → Carried) (ss : List ℕ) where
   abbrev l : ℕ → List Mark
@@ -73,8 +73,8 @@ module _ (n : ℕ) (ds ns : List ℕ) (bs : ℕ → Carried) (ss : List ℕ) whe
         let x = entry-place p h e t in
         ap (isOrFollows (l p) (name p)) (sym (x .2)) ∙ follows-there n ds ns bs ss count s p (x .0) (omega arith) (x .1) (name p) ∙ follows-none p (x .0) h (x .1)))
 
-    -- The test of an entry of a mark at a place up to q, by the row that tells of the marks before q.
-    module _ (p q at : ℕ) (first : List ℕ) (hc : p < count) (ha : at ≤ q) (hq : q < count) (w : Tells n ds ns ss p q first) where
+    -- The test of an entry of a mark before place q, by the row that tells of the marks before q.
+    module _ (p q at : ℕ) (first : List ℕ) (hc : p < count) (ha : at < q) (hq : q ≤ count) (w : Tells n ds ns ss p q first) where
       entry-test : (e : MarkId) → T (has e (entriesOfRow n (rowAt n ss at))) → isOrFollows (view n at ds ns bs ss) (name p) e ≡ reaches (rowFn first) e
       entry-test e u =
           let x = entry-place at (omega arith) e u in
@@ -82,16 +82,7 @@ module _ (n : ℕ) (ds ns : List ℕ) (bs : ℕ → Carried) (ss : List ℕ) whe
           ap (isOrFollows (l at) (name p)) (sym (x .2)) ∙ follows-there n ds ns bs ss count s at (x .0) (omega arith) (x .1) (name p) ∙ ap (isOrFollows (l count) (name p)) (x .2)
           ∙ w .tells count hc (omega arith) bs s e (rw (← ids-names n ds ns bs ss q, ← x .2) (has-at n ds ns bs ss q (x .0) (omega arith)))
 
-      -- Does the earlier mark precede the mark? By the row.
-      precedes-by-row : precedes (view n count ds ns bs ss) (name p) (name at) ≡ someFollower n (rowFn first) (rowAt n ss at)
-      unfolding view
-      precedes-by-row = precedes-there n ds ns bs ss count at s (omega arith) (name p) ∙ precedes-at (markAt n ds ns bs ss at) (l at) (name p) (name at) (same-refl (name at))
-          ∙ any-cong (isOrFollows (l at) (name p)) (reaches (rowFn first)) (entriesOfRow n (rowAt n ss at)) entry-test ∙ reached-by-row n (rowFn first) (rowAt n ss at)
-
-      pub precedes-by-lowest : (j : ℕ) → LowestReached n first ss at j → ltb j n ≡ precedes (view n count ds ns bs ss) (name p) (name at)
-      precedes-by-lowest j low = sym (precedes-by-row ∙ some-below n first ss at j low n (omega arith))
-
-    module _ (p q at : ℕ) (first : List ℕ) (hp : p < at) (ha : at ≤ q) (hq : q < count) (w : Tells n ds ns ss p q first) (j : ℕ) (low : LowestReached n first ss at j)
+    module _ (p q at : ℕ) (first : List ℕ) (hp : p < at) (ha : at < q) (hq : q ≤ count) (w : Tells n ds ns ss p q first) (j : ℕ) (low : LowestReached n first ss at j)
         (t : T (isOrFollows (view n count ds ns bs ss) (name p) (name at))) where
       abbrev row : ℕ → ℕ
       row = rowAt n ss at

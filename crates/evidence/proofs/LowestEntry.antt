@@ -1,22 +1,18 @@
--- The lowest entry of a row that passes a test. n: how many desks. Assumes nothing.
-use Prim.Native.Nat.{_+_, _-_, _<_, _≤_, suc, zero, ℕ}
+-- The lowest entry of a row that passes a test. Assumes nothing.
+use Prim.Native.Nat.{_+_, _<_, _≤_, suc, zero, ℕ}
 use borrow.Author.Tests.{le-ltb, lt-ltb}
 use lib.Dec.{T, ltb, ltb→lt, nltb→le}
-use mathlib.Core.Bool.{Bool, _||_, false, or-true, true}
+use mathlib.Core.Bool.{Bool, false, true}
 use mathlib.Core.List.{List, [], _∷_}
 use mathlib.Core.Logic.{inl, inr}
 use mathlib.Core.Option.{Option, none, some}
 use mathlib.Core.Path.{_∙_, _≡_, ap, refl, subst, sym}
-use native.Mathlib.Numerals.{sub-one}
 use native.Mathlib.Omega.{arith}
 use Rattle.frame.specs.Mark.{MarkId}
 use Rattle.causality.specs.Marks.{has, lower, lowest, same}
-use Rattle.causality.proofs.Apart.{someFollower}
 use Rattle.causality.proofs.Lists.{has-self}
 use Rattle.causality.proofs.Logic.{or-inr, split}
 use Rattle.causality.proofs.RowLaws.{entriesFrom}
-use Rattle.rows.specs.View.{rowAt, rowFn}
-use Rattle.evidence.specs.Steps.{LowestReached, reachedAt}
 
 -- Where no entry passes there is none.
 pub lowest-none : (P : MarkId → Bool) (es : List MarkId) → ((e : MarkId) → T (has e es) → P e ≡ false) → lowest (λ e. e) P es ≡ none
@@ -76,25 +72,3 @@ module _ (P : MarkId → Bool) (r : ℕ → ℕ) where
           → lowest (λ e. e) P (elim b as (λ z. List MarkId) [ true ↦ at d ∷ entriesFrom r (suc d) k | false ↦ entriesFrom r (suc d) k ]) ≡ some (at j)
       later true e h ih = rw (rest d (omega arith) h (ltb→lt 0 (r d) (rw e tt)), lowest) ih
       later false e h ih = ih
-
--- Some entry reaches the row if the lowest index at which one does is below n.
-pub some-below : (n : ℕ) (first ss : List ℕ) (q j : ℕ) → LowestReached n first ss q j → (k : ℕ) → k ≤ n → someFollower k (rowFn first) (rowAt n ss q) ≡ ltb j k
-some-below n first ss q j low zero h = sym (le-ltb j 0 (omega arith))
-some-below n first ss q j low (suc k) h =
-    let e : reachedAt n first ss q (suc k - 1) ≡ reachedAt n first ss q k = ap (reachedAt n first ss q) (sub-one (suc k)) in
-    let ih = some-below n first ss q j low k (omega arith) in
-    (λ i. e i || ih i) ∙ elim (split (ltb k j)) [
-      | inl t ↦
-          let u = ltb→lt k j t in
-          let x = low .lowest k u in
-          let y = le-ltb j k (omega arith) in
-          (λ i. x i || y i) ∙ sym (le-ltb j (suc k) (omega arith))
-      | inr t ↦ let u = nltb→le k j t in elim (split (ltb j k)) [
-        | inl v ↦ let w = ltb→lt j k v in let y = lt-ltb j k w in ap (λ (b : Bool). reachedAt n first ss q k || b) y ∙ or-true (reachedAt n first ss q k) ∙ sym (lt-ltb j (suc k) (omega arith))
-        | inr v ↦
-            let w = nltb→le j k v in
-            let z : j ≡ k = omega arith in
-            let x = subst (λ (i : ℕ). reachedAt n first ss q i ≡ true) z (low .there (omega arith)) in
-            ap (λ (b : Bool). b || ltb j k) x ∙ sym (lt-ltb j (suc k) (omega arith))
-      ]
-    ]

@@ -48,7 +48,7 @@ module _ (n : ℕ) (ds ns ss : List ℕ) (p q : ℕ) where
     more : (r : ℕ) → names (listing r) ≡ nameAt ds ns r ∷ names list
     more r = let h = w .small in longer-names list (w .spare) (nameAt ds ns r .desk) (nameAt ds ns r .number) (omega arith)
 
-    pub walk-turn : (first : List ℕ) → p < at → Tells n ds ns ss p q first → (r : ℕ) → SteppedBack n ds ns ss first at r → WalkedTo (listing at) r
+    pub walk-turn : (first : List ℕ) → p < at → Tells n ds ns ss p (q + 1) first → (r : ℕ) → SteppedBack n ds ns ss first at r → WalkedTo (listing at) r
     walk-turn first lo tells r b =
         let h = w .small in
         let less = b .less in
@@ -58,7 +58,7 @@ module _ (n : ℕ) (ds ns ss : List ℕ) (p q : ℕ) where
           listed = λ count k bs s t.
               let l = view n count ds ns bs ss in
               let x = w .listed count k bs s t in
-              let y = b .towards p q lo (omega arith) tells count k bs s (x .0) in (
+              let y = b .towards p (q + 1) lo (omega arith) tells count (omega arith) bs s (x .0) in (
                 y .0,
                 x .1 ∙ ap (λ (g : List MarkId). reverse g ++ names list) (y .1) ∙ ap (λ (g : List MarkId). g ++ names list) (reverse-cons (nameAt ds ns at) (goingBack l (nameAt ds ns p) (nameAt ds ns r)))
                     ∙ append-assoc (back l r) (nameAt ds ns at ∷ []) (names list) ∙ ap (λ (g : List MarkId). back l r ++ g) (sym (more at)),

@@ -1,9 +1,9 @@
 -- Evidence by its ways out: a mark is at no place, the marks are apart, the lent pairs are too few, or the chain is listed. Assumes nothing.
-use Prim.Native.Nat.{_-_, _<_, _≤_, max, min, suc, ℕ}
-use borrow.Author.Tests.{le-ltb, lt-ltb}
-use lib.Dec.{T, ltb, ltb→lt, nltb→le}
-use lib.ListN.{length, length-reverse}
-use mathlib.Core.Bool.{Bool, false, true}
+use Prim.Native.Nat.{_+_, _-_, _<_, _≤_, max, min, suc, ℕ}
+use borrow.Author.Tests.{le-ltb, lt-ltb, ne-eqb}
+use lib.Dec.{T, leb, ltb, ltb→lt, nltb→le}
+use lib.ListN.{getD, length, length-reverse}
+use mathlib.Core.Bool.{Bool, _&&_, _||_, false, true}
 use mathlib.Core.List.{List, reverse, reverse-reverse}
 use mathlib.Core.Logic.{_⊎_, inl, inr}
 use mathlib.Core.Path.{_∙_, _≡_, ap, refl, subst, sym}
@@ -19,7 +19,7 @@ use Rattle.causality.specs.Meaning.{proving}
 use Rattle.causality.specs.State.{Mark, State, precedes}
 use Rattle.causality.specs.declared.Evidence.the-variants.{Refused}
 use Rattle.causality.proofs.EvidenceLaws.{counts-below}
-use Rattle.causality.proofs.Logic.{or-inl, or-inr, same-refl, split}
+use Rattle.causality.proofs.Logic.{or-inl, same-refl, split}
 use Rattle.causality.proofs.Reach.{Sound}
 use Rattle.executed.specs.Rows.{Finds, Lent}
 use Rattle.executed.proofs.Chain.{found-inside, found-place}
@@ -31,13 +31,13 @@ use Rattle.queries.specs.Steps.{PrecedesAt}
 use Rattle.queries.proofs.MadeBefore.{counted-less}
 use Rattle.queries.proofs.Relating.{relate-back, relate-forward, relate-no-first, relate-no-second, relate-same}
 use Rattle.rows.specs.View.{Carried, nameAt, namesDown, view, width}
-use Rattle.rows.proofs.Places.{found-some}
+use Rattle.rows.proofs.Places.{found-some, has-at, ids-names}
 use Rattle.rows.proofs.RowSteps.{named-less}
 use Rattle.concurrent.specs.Steps.{Tells, isOrFollows}
+use Rattle.concurrent.proofs.ByPlaces.{same-place}
 use Rattle.evidence.specs.Found.{EvidenceFound}
-use Rattle.evidence.specs.Steps.{CountsOf, GoneBack, HasMark, LowestReached, Reversed, countedBefore, verdictAt}
+use Rattle.evidence.specs.Steps.{CountsOf, GoneBack, HasMark, Reversed, countedBefore, verdictAt}
 use Rattle.evidence.specs.declared.EvidenceList.{EvidenceList}
-use Rattle.evidence.proofs.Chains.{precedes-by-lowest}
 use Rattle.evidence.proofs.Verdicts.{verdict-after, verdict-before, verdict-same}
 
 -- BY THE VERDICT
@@ -101,20 +101,21 @@ module _ (ds ns ss : List ℕ) (p q : ℕ) (list : Listed) (g : GoneBack width d
   unfolding marksOf chain
   long-back = sym (length-marksOf list) ∙ ap (λ (x : List MarkId). length (reverse x)) (g .names count h bs s t) ∙ length-reverse (reverse back)
 
--- By the lowest entry that reaches the row, whether the mark at p precedes that at a later place.
-module _ (ds ns ss : List ℕ) (p q : ℕ) (o : p < q) (first : List ℕ) (w : Tells width ds ns ss p q first) (j : ℕ) (low : LowestReached width first ss q j) where
-  precedes-at-places : PrecedesAt ds ns ss p q (ltb j width)
-  precedes-at-places count bs h s = precedes-by-lowest width ds ns bs ss count s p q q first (omega arith) (omega arith) h w j low
+-- r says whether the mark at place q is that at place p or follows it, however many marks there are.
+abbrev pub FollowsAt : List ℕ → List ℕ → List ℕ → ℕ → ℕ → Bool → Type 0
+FollowsAt ds ns ss p q r = (count : ℕ) (bs : ℕ → Carried) → q < count → Sound (view width count ds ns bs ss)
+    → r ≡ isOrFollows (view width count ds ns bs ss) (nameAt ds ns p) (nameAt ds ns q)
 
-  pub leads : j < width → PrecedesAt ds ns ss p q true
-  leads h = subst (PrecedesAt ds ns ss p q) (lt-ltb j width h) precedes-at-places
+module _ (ds ns ss : List ℕ) (p q : ℕ) where
+  -- By the row that tells of it and of the marks before it.
+  pub follows-told : p ≤ q → (first : List ℕ) → Tells width ds ns ss p (q + 1) first → FollowsAt ds ns ss p q (ltb 0 (getD first (getD ds q 0 - 1) 0) && leb (getD first (getD ds q 0 - 1) 0) (getD ns q 0))
+  follows-told o first w count bs h s =
+      sym (w .tells count (omega arith) (omega arith) bs s (nameAt ds ns q) (rw (← ids-names width ds ns bs ss (q + 1)) (has-at width ds ns bs ss (q + 1) q (omega arith))))
 
-  pub leads-not : width ≤ j → PrecedesAt ds ns ss p q false
-  leads-not h = subst (PrecedesAt ds ns ss p q) (le-ltb j width h) precedes-at-places
-
--- There is a chain from one place to a later one: they are one, or the mark at the first precedes the other.
-abbrev pub Joins : List ℕ → List ℕ → List ℕ → ℕ → ℕ → Type 0
-Joins ds ns ss from to = (to ≤ from) ⊎ PrecedesAt ds ns ss from to true
+  -- At two places are two marks.
+  precedes-at-places : p < q → (r : Bool) → FollowsAt ds ns ss p q r → PrecedesAt ds ns ss p q r
+  precedes-at-places o r f count bs h s =
+      f count bs h s ∙ ap (λ (b : Bool). b || precedes (view width count ds ns bs ss) (nameAt ds ns p) (nameAt ds ns q)) (sym (same-place width ds ns bs ss count p q s (omega arith) h) ∙ ne-eqb p q (λ e. omega arith))
 
 -- LENT ARRAYS
 
@@ -175,26 +176,21 @@ module _ (count : ℕ) (ds ns ss ts ls bf : List ℕ) (l : Lent count ds ns ts l
       long-as : list .count ≡ length (chain (view width count ds ns bs ss) x y)
       long-as = long-back ds ns ss i j list g count jc bs s t ∙ (λ k. length (chain marks (ex k) (ey k)))
 
-    -- The mark at i precedes that at j.
-    module _ (i j : ℕ) (o : i < j) (jc : j < count) (c : Joins ds ns ss i j) where
-      before : PrecedesAt ds ns ss i j true
-      before = elim c [ inl z ↦ let w : ⊥ = omega arith in absurd w | inr z ↦ z ]
-
-      follows : T (isOrFollows (view width count ds ns bs ss) (nameAt ds ns i) (nameAt ds ns j))
-      follows = or-inr (same (nameAt ds ns i) (nameAt ds ns j)) (precedes marks (nameAt ds ns i) (nameAt ds ns j)) (rw (← before count bs jc s) tt)
+    follows : (i j : ℕ) → j < count → FollowsAt ds ns ss i j true → T (isOrFollows (view width count ds ns bs ss) (nameAt ds ns i) (nameAt ds ns j))
+    follows i j jc f = rw (← f count bs jc s) tt
 
     module _ (from to : ℕ) (ef : from ≡ min p q) (et : to ≡ max p q) where
-      chained : Joins ds ns ss from to → (list : Listed) → GoneBack width ds ns ss from to list → Chained list
+      chained : FollowsAt ds ns ss from to true → (list : Listed) → GoneBack width ds ns ss from to list → Chained list
       chained c list g = go order
         where
-          at : (i j : ℕ) → from ≡ i → to ≡ j → GoneBack width ds ns ss i j list × Joins ds ns ss i j
+          at : (i j : ℕ) → from ≡ i → to ≡ j → GoneBack width ds ns ss i j list × FollowsAt ds ns ss i j true
           at i j e f =
-              subst (λ (x : ℕ). GoneBack width ds ns ss x j list × Joins ds ns ss x j) e (subst (λ (y : ℕ). GoneBack width ds ns ss from y list × Joins ds ns ss from y) f (g, c))
+              subst (λ (x : ℕ). GoneBack width ds ns ss x j list × FollowsAt ds ns ss x j true) e (subst (λ (y : ℕ). GoneBack width ds ns ss from y list × FollowsAt ds ns ss from y true) f (g, c))
 
           go : (p ≡ q) ⊎ ((p < q) ⊎ (q < p)) → Chained list
           go (inl e) =
               let w = at p q (omega arith) (omega arith) in
-              let t = or-inl (same (nameAt ds ns p) (nameAt ds ns q)) (precedes marks (nameAt ds ns p) (nameAt ds ns q)) (subst (λ (r : ℕ). T (same (nameAt ds ns p) (nameAt ds ns r))) e (same-refl (nameAt ds ns p))) in
+              let t = follows p q second-in (w .1) in
               let long = long-as p q second-in list (w .0) t a b first-name second-name in
               record {
                 verdict = Same;
@@ -205,32 +201,32 @@ module _ (count : ℕ) (ds ns ss ts ls bf : List ℕ) (l : Lent count ds ns ts l
               }
           go (inr (inl e)) =
               let w = at p q (omega arith) (omega arith) in
-              let t = follows p q e second-in (w .1) in
+              let t = follows p q second-in (w .1) in
               let long = long-as p q second-in list (w .0) t a b first-name second-name in
               record {
                 verdict = Before;
-                related = relate-forward count ds ns ss ts ls bf l own bs waiting a b p q fa fb h k s true true refl e (before p q e second-in (w .1));
+                related = relate-forward count ds ns ss ts ls bf l own bs waiting a b p q fa fb h k s true true refl e (precedes-at-places ds ns ss p q e true (w .1));
                 names = names-as p q second-in list (w .0) t a b first-name second-name;
                 long = long;
                 answer = ap proving (verdict-before p q (list .count) (λ z. omega arith) e) ∙ ap (λ (n : ℕ). gives (Before n)) long;
               }
           go (inr (inr e)) =
               let w = at q p (omega arith) (omega arith) in
-              let t = follows q p e first-in (w .1) in
+              let t = follows q p first-in (w .1) in
               let long = long-as q p first-in list (w .0) t b a second-name first-name in
               record {
                 verdict = After;
-                related = relate-back count ds ns ss ts ls bf l own bs waiting a b p q fa fb h k s true true refl e (before q p e first-in (w .1));
+                related = relate-back count ds ns ss ts ls bf l own bs waiting a b p q fa fb h k s true true refl e (precedes-at-places ds ns ss q p e true (w .1));
                 names = names-as q p first-in list (w .0) t b a second-name first-name;
                 long = long;
                 answer = ap proving (verdict-after p q (list .count) (λ z. omega arith) (omega arith)) ∙ ap (λ (n : ℕ). gives (After n)) long;
               }
 
-      pub evidence-too-short : Joins ds ns ss from to → (list : Listed) → GoneBack width ds ns ss from to list → room < list .count
+      pub evidence-too-short : FollowsAt ds ns ss from to true → (list : Listed) → GoneBack width ds ns ss from to list → room < list .count
           → (r : EvidenceList) → r .answer ≡ Refused OutputShort → r .list .count ≡ 0 → Spare (r .list) → EvidenceFound (lent count ds ns ss own bs waiting) a b room r
       evidence-too-short j list g short = let c = chained j list g in let n = c .long in too-short state a b room (c .verdict) (c .related) (omega arith)
 
-      pub evidence-shown : Joins ds ns ss from to → (list : Listed) → GoneBack width ds ns ss from to list → list .count ≤ room
+      pub evidence-shown : FollowsAt ds ns ss from to true → (list : Listed) → GoneBack width ds ns ss from to list → list .count ≤ room
           → (r : EvidenceList) → r .answer ≡ verdictAt p q (list .count) → Reversed list (r .list) → EvidenceFound (lent count ds ns ss own bs waiting) a b room r
       evidence-shown j list g enough r e v =
           let c = chained j list g in
@@ -239,19 +235,19 @@ module _ (count : ℕ) (ds ns ss ts ls bf : List ℕ) (l : Lent count ds ns ts l
           shown state a b room (c .verdict) (c .related) r (ap proving e ∙ c .answer) (c .names (r .list) v) (omega arith) (omega arith) (v .spare)
 
       -- There is no chain: the marks are concurrent, with these counts.
-      pub evidence-concurrent : from < to → PrecedesAt ds ns ss from to false → (r : EvidenceList) → CountsOf width ds ns ss p q (r .answer)
+      pub evidence-concurrent : FollowsAt ds ns ss from to false → (r : EvidenceList) → CountsOf width ds ns ss p q (r .answer)
           → r .list .count ≡ 0 → Spare (r .list) → EvidenceFound (lent count ds ns ss own bs waiting) a b room r
       unfolding marksOf
-      evidence-concurrent o apart r v n =
+      evidence-concurrent apart r v n =
           shown state a b room Concurrent (go order) r (ap proving (v count first-in second-in bs s) ∙ (λ i. gives (Concurrent (first i) (second i)))) (ap (λ (c : ℕ). reverse (namesDown c (r .list .desks) (r .list .numbers))) n) (omega arith) (omega arith)
         where
-          at : (i j : ℕ) → from ≡ i → to ≡ j → PrecedesAt ds ns ss i j false
-          at i j e f = subst (λ (x : ℕ). PrecedesAt ds ns ss x j false) e (subst (λ (y : ℕ). PrecedesAt ds ns ss from y false) f apart)
+          at : (i j : ℕ) → from ≡ i → to ≡ j → FollowsAt ds ns ss i j false
+          at i j e f = subst (λ (x : ℕ). FollowsAt ds ns ss x j false) e (subst (λ (y : ℕ). FollowsAt ds ns ss from y false) f apart)
 
           go : (p ≡ q) ⊎ ((p < q) ⊎ (q < p)) → relate (lent count ds ns ss own bs waiting) a b ≡ gives Concurrent
-          go (inl z) = let w : ⊥ = omega arith in absurd w
-          go (inr (inl z)) = relate-forward count ds ns ss ts ls bf l own bs waiting a b p q fa fb h k s false false refl z (at p q (omega arith) (omega arith))
-          go (inr (inr z)) = relate-back count ds ns ss ts ls bf l own bs waiting a b p q fa fb h k s false false refl z (at q p (omega arith) (omega arith))
+          go (inl z) = absurd (subst T (sym (at p p (omega arith) (omega arith) count bs first-in s)) (or-inl (same (nameAt ds ns p) (nameAt ds ns p)) (precedes marks (nameAt ds ns p) (nameAt ds ns p)) (same-refl (nameAt ds ns p))))
+          go (inr (inl z)) = relate-forward count ds ns ss ts ls bf l own bs waiting a b p q fa fb h k s false false refl z (precedes-at-places ds ns ss p q z false (at p q (omega arith) (omega arith)))
+          go (inr (inr z)) = relate-back count ds ns ss ts ls bf l own bs waiting a b p q fa fb h k s false false refl z (precedes-at-places ds ns ss q p z false (at q p (omega arith) (omega arith)))
 
           first : countedBefore (view width count ds ns bs ss) ds ns p q ≡ inPast (view width count ds ns bs ss) (a .desk) b
           first = (λ i. min (first-name i .number - 1) (inPast marks (first-name i .desk) (second-name i))) ∙ (let x = counts-below state s a b (go order) .0 in omega arith)

@@ -35,7 +35,7 @@ pub record PlaceBelow (ds ns : List ℕ) (at : ℕ) (i : MarkId) (r : ℕ) : Typ
 -- The place to which the chain from the mark at a place p goes back from place `at`, by a row that tells of the marks.
 pub record SteppedBack (n : ℕ) (ds ns ss first : List ℕ) (at r : ℕ) : Type 0 where
   pub less : r < at
-  pub towards : (p q : ℕ) → p < at → at ≤ q → Tells n ds ns ss p q first → (count : ℕ) → q < count
+  pub towards : (p q : ℕ) → p < at → at < q → Tells n ds ns ss p q first → (count : ℕ) → q ≤ count
       → OfMarks n count ds ns ss (λ l. T (isOrFollows l (nameAt ds ns p) (nameAt ds ns at)) → T (isOrFollows l (nameAt ds ns p) (nameAt ds ns r))
       × (goingBack l (nameAt ds ns p) (nameAt ds ns at) ≡ nameAt ds ns at ∷ goingBack l (nameAt ds ns p) (nameAt ds ns r)))
 

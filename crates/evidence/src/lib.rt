@@ -1,6 +1,6 @@
 // Evidence over lent arrays: the verdict of Relate with the chain or the counts behind it.
 ghost use mathlib.Core.Path.{_≡_};
-ghost use Prim.Native.Nat.{min, max, _≤_, _<_};
+ghost use Prim.Native.Nat.{min, max, _+_, _≤_, _<_};
 ghost use lib.ListN.{length};
 ghost use Rattle.causality.specs.Marks.{places};
 ghost use Rattle.causality.specs.Meaning.{idOf};
@@ -102,7 +102,7 @@ fn going_back<'a>(
     ds: &mut [u8; PLACES],
     ns: &mut [u16; PLACES],
 ) -> usize
-    requires { ⌜ (p .0 ≤ q .0) × (q .0 < places) × Tells width (now desks) (now numbers) (now stamps) (p .0) (q .0) (now first)
+    requires { ⌜ (p .0 ≤ q .0) × (q .0 < places) × Tells width (now desks) (now numbers) (now stamps) (p .0) (q .0 + 1) (now first)
         × Spare (slots (now ds) (now ns) 0) ⌝ }
     ensures { λ r. ⌜ GoneBack width (now (desks .entry)) (now (numbers .entry)) (now (stamps .entry)) (p .0) (q .0)
         (slots (now (ds .exit)) (now (ns .exit)) r) ⌝ }
@@ -234,11 +234,9 @@ pub fn evidence_list<'a>(
     }
     let from = lower(p, q);
     let to = higher(p, q);
-    let first = first_followers(desks, numbers, stamps, Place(from), Place(to));
-    if from < to {
-        if WIDTH <= lowest_entry(stamps, &first, Place(to)) {
-            return alone(counts(desks, numbers, stamps, Place(p), Place(q)));
-        }
+    let first = first_followers(desks, numbers, stamps, Place(from), Place(to + 1));
+    if !reaches(first[desks[to] as usize - 1], numbers[to]) {
+        return alone(counts(desks, numbers, stamps, Place(p), Place(q)));
     }
     let mut ds = [0u8; PLACES];
     let mut ns = [0u16; PLACES];

@@ -1,15 +1,17 @@
 -- `evidence_list` meets its contract: its five ways out are those of `Ways`.
-use mathlib.Core.Logic.{⊎-elim, inl, inr}
-use mathlib.Core.Path.{_∙_}
+use mathlib.Core.Bool.{Bool, false, true}
+use mathlib.Core.Path.{_∙_, _≡_, subst, sym}
 use Prim.Native.Nat.{_<_, _≤_}
+use lib.ListN.{getD}
 use borrow.Author.Needs.{needs}
+use borrow.Author.Tests.{not-false, not-true}
 use native.Mathlib.Omega.{arith}
 use Rattle.causality.specs.Marks.{places}
 use Rattle.executed.proofs.Chain.{found-inside}
 use Rattle.rows.specs.View.{width}
-use Rattle.rows.proofs.RowSteps.{named-less}
+use Rattle.rows.proofs.RowSteps.{named-at, named-less}
 use Rattle.rows.proofs.Slots.{zero-all}
-use Rattle.evidence.proofs.Ways.{Joins, evidence-concurrent, evidence-no-first, evidence-no-second, evidence-shown, evidence-too-short, has-mark, leads, leads-not}
+use Rattle.evidence.proofs.Ways.{FollowsAt, evidence-concurrent, evidence-no-first, evidence-no-second, evidence-shown, evidence-too-short, follows-told, has-mark}
 use Rattle.evidence.proofs.evidence_list.Statement.{statement}
 use Rattle.evidence.proofs.evidence_list.Tie as tie
 
@@ -45,10 +47,23 @@ within c =
     (omega arith, omega arith, c .before .before .before .before .before .before .pre .marks .few)
 
 first-followers-requires : tie.Need-first-followers-requires
-first-followers-requires c κs = let w = within c in (w .0, omega (arith, w .1, w .2), named-less width _ _ _ (c .before .before .before .before .before .before .pre .marks .named) (omega (arith, w .1)))
+first-followers-requires c κs = let w = within c in (omega (arith, w .0), omega (arith, w .1, w .2), named-less width _ _ _ (c .before .before .before .before .before .before .pre .marks .named) (omega (arith, w .1)))
 
-lowest-entry-requires : tie.Need-lowest-entry-requires
-lowest-entry-requires c κs = let w = within (c .before .before .before) in omega (arith, w .1, w .2)
+-- The later mark is of a desk.
+in-range : (c : tie.After-higher) → let d = getD (c .before .before .before .before .before .before .args .desks .now) (c .higher .result) 0 in (1 ≤ d) × (d ≤ width)
+in-range c = named-at width _ _ _ (c .before .before .before .before .before .before .pre .marks .named) (within c .1)
+
+array-read-reaches : tie.Need-array-read-reaches
+array-read-reaches c = omega (arith, in-range (c .before .before))
+
+-- Whether the later mark is the earlier one or follows it.
+follows : (c : tie.After-reaches) (r : Bool) → c .reaches .result ≡ r → let h = c .before .before .before .before in let a = h .before .before .before .before .before .before .args in
+    FollowsAt (a .desks .now) (a .numbers .now) (a .stamps .now) (h .before .lower .result) (h .higher .result) r
+follows c r e =
+    let f = c .before .before .before in
+    let h = f .before in
+    let a = h .before .before .before .before .before .before .args in
+    subst (FollowsAt (a .desks .now) (a .numbers .now) (a .stamps .now) (h .before .lower .result) (h .higher .result)) (sym (c .reaches .ensures) ∙ e) (follows-told _ _ _ _ _ (within h .0) _ (f .first-followers .ensures))
 
 counts-requires : tie.Need-counts-requires
 counts-requires c κs =
@@ -60,43 +75,35 @@ counts-requires c κs =
 returns-3 : tie.Need-returns-3
 returns-3 c count own bs waiting l sound =
     let t = c .before .before in
-    let j = t .before in
-    let u = j .before .before in
-    let h = u .before .before in
+    let h = t .before .before .before .before .before in
     let e = h .before .before in
     let f = e .before .before in
     let r = c .alone3 .ensures in
     evidence-concurrent _ _ _ _ _ _ _ l own bs waiting _ _ _ _ (f .before .find .ensures) (f .find2 .ensures) _ (e .before .if1 .left) (e .if2 .left) sound _ _ (h .before .lower .ensures) (h .higher .ensures)
-    (u .if3 .taken) (leads-not _ _ _ _ _ (u .if3 .taken) _ (u .before .first-followers .ensures) _ (j .lowest-entry .ensures) (t .if4 .taken)) (c .alone3 .result)
-    (λ count p q bs s. r .0 ∙ c .before .counts .ensures count p q bs s) (r .1) (r .2)
+    (follows (t .before) false (not-true _ (t .if3 .taken))) (c .alone3 .result) (λ count p q bs s. r .0 ∙ c .before .counts .ensures count p q bs s) (r .1) (r .2)
 
 going-back-requires : tie.Need-going-back-requires
 going-back-requires c κs =
-    let n = c .before .before .before .before in
-    let w = within (n .before) in
-    (w .0, omega (arith, w .1, w .2), n .first-followers .ensures, record { desks = zero-all places 0; numbers = zero-all places 0 })
-
--- Where the marks are not told to be concurrent, the one leads to the other.
-joins : (c : tie.Joined3) → let h = c .before .before in let a = h .before .before .before .before .before .before .args in
-    Joins (a .desks .now) (a .numbers .now) (a .stamps .now) (h .before .lower .result) (h .higher .result)
-joins c = ⊎-elim (λ w. inr (leads _ _ _ _ _ (w .0 .taken) _ (c .before .first-followers .ensures) _ (w .2 .ensures) (w .3 .left))) (λ w. inl (w .left)) (c .if3 .came)
+    let f = c .before .before .before .before .before .before .before in
+    let w = within (f .before) in
+    (w .0, omega (arith, w .1, w .2), f .first-followers .ensures, record { desks = zero-all places 0; numbers = zero-all places 0 })
 
 returns-4 : tie.Need-returns-4
 returns-4 c count own bs waiting l sound =
     let g = c .before .before in
     let j = g .before .before .before .before in
-    let h = j .before .before in
+    let h = j .before .before .before .before .before in
     let e = h .before .before in
     let f = e .before .before in
     let r = c .alone4 .ensures in
-    let t = c .before .if5 .taken in
+    let t = c .before .if4 .taken in
     evidence-too-short _ _ _ _ _ _ _ l own bs waiting _ _ _ _ (f .before .find .ensures) (f .find2 .ensures) _ (e .before .if1 .left) (e .if2 .left) sound _ _ (h .before .lower .ensures) (h .higher .ensures)
-    (joins j) _ (g .going-back .ensures) (omega arith) (c .alone4 .result) (r .0) (r .1) (r .2)
+    (follows (j .before) true (not-false _ (j .if3 .left))) _ (g .going-back .ensures) (omega arith) (c .alone4 .result) (r .0) (r .1) (r .2)
 
 shown-requires : tie.Need-shown-requires
 shown-requires c κs =
     let g = c .before .before .before .before in
-    let w = within (g .before .before .before .before .before .before) in
+    let w = within (g .before .before .before .before .before .before .before .before .before) in
     let few = g .going-back .ensures .few in
     omega (arith, w .1, w .2)
 
@@ -105,13 +112,13 @@ returns-5 c count own bs waiting l sound =
     let u = c .before .before .before .before in
     let g = u .before in
     let j = g .before .before .before .before in
-    let h = j .before .before in
+    let h = j .before .before .before .before .before in
     let e = h .before .before in
     let f = e .before .before in
     let r = c .shown .ensures in
-    let t = u .if5 .left in
+    let t = u .if4 .left in
     evidence-shown _ _ _ _ _ _ _ l own bs waiting _ _ _ _ (f .before .find .ensures) (f .find2 .ensures) _ (e .before .if1 .left) (e .if2 .left) sound _ _ (h .before .lower .ensures) (h .higher .ensures)
-    (joins j) _ (g .going-back .ensures) (omega arith) (c .shown .result) (r .0 ∙ c .before .verdict .ensures) (r .1)
+    (follows (j .before) true (not-false _ (j .if3 .left))) _ (g .going-back .ensures) (omega arith) (c .shown .result) (r .0 ∙ c .before .verdict .ensures) (r .1)
 
 pub evidence-list-spec : {M : Type 1} → statement M
 evidence-list-spec =
@@ -125,8 +132,16 @@ evidence-list-spec =
     returns-2
     (λ c κs. search needs)
     (λ c κs. search needs)
+    (λ c. let w = within c in record { fits = omega (arith, w .1, w .2) })
     first-followers-requires
-    lowest-entry-requires
+    (λ c. let w = within (c .before) in omega (arith, w .1, w .2))
+    (λ c. omega (arith, in-range (c .before .before)))
+    (λ c. in-range (c .before .before) .0)
+    (λ c. let d = in-range (c .before .before) in record { fits = omega (arith, d .0, d .1) })
+    array-read-reaches
+    (λ c. let w = within (c .before .before) in record { fits = omega (arith, w .1, w .2) })
+    (λ c. let w = within (c .before .before) in omega (arith, w .1, w .2))
+    (λ c κs. search needs)
     counts-requires
     (λ c κs. search needs)
     returns-3
