@@ -5,14 +5,15 @@ use std::process::{Command, Output, Stdio};
 const EXAMPLES: &str = concat!(env!("CARGO_MANIFEST_DIR"), "/../examples");
 
 /// The calls that the benchmark times and bounds.
-const TIMED: [&str; 9] = [
+const TIMED: [&str; 10] = [
     "Receive",
     "Mark",
     "Relate, all pairs",
     "Apart",
     "First apart",
     "Evidence, apart",
-    "Evidence, chained",
+    "Evidence, short",
+    "Evidence, long",
     "Frame again",
     "Junk frame",
 ];

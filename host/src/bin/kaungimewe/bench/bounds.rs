@@ -13,9 +13,9 @@ enum Beside {
     /// The same call of (b).
     Clocks,
     /// Three times its own Relate of the same pairs, which have no chain.
-    Relate,
+    Relate(Call),
     /// The same and the chain: its own Relate of each two neighbours in it.
-    RelateAndChain,
+    RelateAndLinks(Call, Call),
     /// A junk frame before the desk stayed in place.
     OldJunk,
 }
@@ -28,14 +28,15 @@ pub struct Bound {
 }
 
 /// Every bound.
-pub const BOUNDS: [Bound; 9] = [
+pub const BOUNDS: [Bound; 10] = [
     Bound { call: Call::Receive, most: 0.8, beside: Beside::ByReference },
     Bound { call: Call::Mark, most: 0.3, beside: Beside::ByReference },
     Bound { call: Call::Relate, most: 0.6, beside: Beside::Clocks },
     Bound { call: Call::Apart, most: 1.5, beside: Beside::ByReference },
     Bound { call: Call::FirstApart, most: 1.0, beside: Beside::ByReference },
-    Bound { call: Call::EvidenceApart, most: 1.0, beside: Beside::Relate },
-    Bound { call: Call::EvidenceChained, most: 1.0, beside: Beside::RelateAndChain },
+    Bound { call: Call::EvidenceApart, most: 1.0, beside: Beside::Relate(Call::RelateApart) },
+    Bound { call: Call::EvidenceShort, most: 1.0, beside: Beside::RelateAndLinks(Call::RelateShort, Call::LinksShort) },
+    Bound { call: Call::EvidenceLong, most: 1.0, beside: Beside::RelateAndLinks(Call::RelateLong, Call::LinksLong) },
     Bound { call: Call::FrameAgain, most: 1.5, beside: Beside::ByReference },
     Bound { call: Call::JunkFrame, most: 0.1, beside: Beside::OldJunk },
 ];
@@ -48,8 +49,8 @@ impl Bound {
         let beside = match self.beside {
             Beside::ByReference => medians.by_reference[call],
             Beside::Clocks => medians.clocks[call],
-            Beside::Relate => 3.0 * own(Call::RelateApart),
-            Beside::RelateAndChain => 3.0 * own(Call::RelateChained) + own(Call::RelateLinks),
+            Beside::Relate(relate) => 3.0 * own(relate),
+            Beside::RelateAndLinks(relate, links) => 3.0 * own(relate) + own(links),
             Beside::OldJunk => medians.by_reference[Call::Receive as usize] * OLD_JUNK_RATIO,
         };
         medians.whole()[call] / beside
@@ -66,8 +67,8 @@ impl Bound {
         let beside = match self.beside {
             Beside::ByReference => "(a)",
             Beside::Clocks => "(b)",
-            Beside::Relate => "3 Relates of the same pairs",
-            Beside::RelateAndChain => "(3 Relates of the same pairs, and Relate of each link)",
+            Beside::Relate(_) => "3 Relates of the same pairs",
+            Beside::RelateAndLinks(..) => "(3 Relates of the same pairs, and Relate of each link)",
             Beside::OldJunk => "its cost when calls copied the desk",
         };
         let verdict = if self.is_held(ratio) { "held" } else { "missed" };

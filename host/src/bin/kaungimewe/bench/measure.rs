@@ -7,9 +7,10 @@ use kaungimewe::peers::{Engine, Stamped};
 use kaungimewe::{MarkId, DESKS, LARGEST_FRAME, PLACES};
 
 use super::junk::junk;
+use super::kinds;
 use super::load::{Load, Step};
 
-/// The calls that are timed. The last seven are of the documents' frames, and only engines that have these are asked.
+/// The calls that are timed. The last ten are of the documents' frames, and only engines that have these are asked.
 #[derive(Clone, Copy)]
 pub enum Call {
     Receive,
@@ -19,15 +20,18 @@ pub enum Call {
     FirstApart,
     EvidenceApart,
     RelateApart,
-    EvidenceChained,
-    RelateChained,
-    RelateLinks,
+    EvidenceShort,
+    RelateShort,
+    LinksShort,
+    EvidenceLong,
+    RelateLong,
+    LinksLong,
     FrameAgain,
     JunkFrame,
 }
 
 /// Their names, in the same order.
-pub const CALLS: [&str; 12] = [
+pub const CALLS: [&str; 15] = [
     "Receive",
     "Mark",
     "Relate, all pairs",
@@ -35,9 +39,12 @@ pub const CALLS: [&str; 12] = [
     "First apart",
     "Evidence, apart",
     "Relate, apart",
-    "Evidence, chained",
-    "Relate, chained",
-    "Relate, links",
+    "Evidence, short",
+    "Relate, short",
+    "Links, short",
+    "Evidence, long",
+    "Relate, long",
+    "Links, long",
     "Frame again",
     "Junk frame",
 ];
@@ -45,11 +52,6 @@ pub const CALLS: [&str; 12] = [
 /// Calls that are too short to be timed alone: so many runs, and so many passes over the junk frames in each.
 const RUNS: usize = 20;
 const PASSES: usize = 100;
-
-/// The few pairs of a mark are asked so many times in a run.
-const REPEATS: usize = 4;
-
-type Pair = (MarkId, MarkId);
 
 /// Bytes for the largest frame of any engine.
 const ROOM: usize = if FRAME > LARGEST_FRAME { FRAME } else { LARGEST_FRAME };
@@ -78,7 +80,7 @@ struct Replayed<E> {
 }
 
 impl Samples {
-    fn of(run: usize) -> Samples {
+    pub fn of(run: usize) -> Samples {
         Samples { times: Vec::new(), run }
     }
 
@@ -89,15 +91,12 @@ impl Samples {
         answer
     }
 
-    /// A run over some pairs, repeated, as a time for each of so many; nothing where there are none.
-    fn mean(&mut self, pairs: &[Pair], among: usize, mut act: impl FnMut(&Pair) -> u64) -> u64 {
-        if among == 0 {
-            return 0;
-        }
+    /// A run of so many calls, as the time of one.
+    pub fn mean(&mut self, calls: usize, act: impl FnOnce() -> u64) -> u64 {
         let start = Instant::now();
-        let sum = (0..REPEATS).map(|_| black_box(pairs).iter().map(&mut act).sum::<u64>()).sum();
-        self.times.push(start.elapsed().as_nanos() as f64 / (REPEATS * among) as f64);
-        black_box(sum)
+        let answer = black_box(act());
+        self.times.push(start.elapsed().as_nanos() as f64 / calls as f64);
+        answer
     }
 }
 
@@ -157,28 +156,11 @@ fn query<E: Engine>(Replayed { desk, names, .. }: &Replayed<E>, measured: &mut M
     measured.sum = sum;
 }
 
-/// Evidence of concurrent pairs and of those with a chain, each beside Relate of the same pairs; and Relate of each two
-/// neighbours in the chains. Of each mark the mean over its pairs.
+/// Evidence beside Relate, by kind of pair.
 fn evidence<E: Stamped>(Replayed { desk, names, .. }: &Replayed<E>, measured: &mut Measured) {
-    let mut samples = [(); 5].map(|()| Samples::of(1));
-    let [evidence_apart, relate_apart, evidence_chained, relate_chained, links] = &mut samples;
-    let mut out = vec![MarkId::default(); PLACES];
-    let relate = |&(a, b): &Pair| desk.relate(a, b).expect("executed") as u64;
-    for &a in names {
-        let (mut apart, mut chained, mut linked) = (Vec::new(), Vec::new(), Vec::new());
-        for &b in names {
-            let length = desk.evidence(a, b, &mut out).expect("executed").length();
-            linked.extend(out[..length].windows(2).map(|link| (link[0], link[1])));
-            if length == 0 { &mut apart } else { &mut chained }.push((a, b));
-        }
-        let mut length = |&(a, b): &Pair| desk.evidence(a, b, black_box(&mut out)).expect("executed").length() as u64;
-        measured.stamped_sum += evidence_apart.mean(&apart, apart.len(), &mut length);
-        measured.stamped_sum += relate_apart.mean(&apart, apart.len(), relate);
-        measured.stamped_sum += evidence_chained.mean(&chained, chained.len(), &mut length);
-        measured.stamped_sum += relate_chained.mean(&chained, chained.len(), relate);
-        measured.stamped_sum += links.mean(&linked, chained.len(), relate);
-    }
+    let (samples, sum) = kinds::measure(desk, names);
     measured.samples.extend(samples);
+    measured.stamped_sum += sum;
 }
 
 /// Frame again, of all marks in each run.

@@ -1,6 +1,7 @@
 //! `bench`: the proved engine's times beside those of two others, in one run over the same history.
 mod bounds;
 mod junk;
+mod kinds;
 mod load;
 mod measure;
 mod report;
@@ -18,7 +19,7 @@ const SIZES: [usize; 3] = [125, 250, 500];
 /// A check runs the benchmark so many times.
 const CHECKED: usize = 3;
 
-/// Nanoseconds a call, in the order of `CALLS`; the clocks lack the last seven.
+/// Nanoseconds a call, in the order of `CALLS`; the clocks lack the last ten.
 type Times = Vec<f64>;
 
 /// What is reported: medians over all rounds, and the bytes of all frames.
