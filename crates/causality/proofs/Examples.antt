@@ -14,7 +14,7 @@ use Rattle.frame.specs.Mark.{MarkId, boxRule, desks, isDesk, isNumber}
 use Rattle.causality.specs.Answers.{After, Before, Concurrent, Evidence, Executed, Known, Numbered, Relation, Reply, Same, Waiting}
 use Rattle.causality.specs.Calls.{apartOf, arrive, executing, fieldsOfMark, firstApart, frameAgainBytes, frameAgainSize, frameOfMark, full, mark, markAnswer, markIn, new, newMark, receive, receiveMark, refuse, relate, sameFields, sizeOfMark, toFirstBytes, toFirstMark, toFirstSize, toSecondBytes, toSecondMark, toSecondSize, unmade}
 use Rattle.causality.specs.Evidence.{chain, evidence, evidenceChain, evidencePairs, inPast}
-use Rattle.causality.specs.Examples.{chains, clicks, counted, pinned, short, starred, tails}
+use Rattle.causality.specs.Examples.{chains, clicks, counted, fading, pinned, short, starred, tails}
 use Rattle.causality.specs.Marks.{same}
 use Rattle.causality.specs.State.{Mark, State, concurrent, falseEntries, falseStamp, heads, ids, isHead, lacksPrevious, missing, missingEntries, previous, ready, reckoning}
 
@@ -267,6 +267,16 @@ foundChains =
     ∷ shown desk6 (id 5 1) (id 1 1) 3
     ∷ []
 
+-- "desk 1 with 3.1 and 2.1 with (3,1)"; then it has marked and 3.2 has come.
+abbrev followed : State
+followed = receives (fresh 1) (f31 ∷ writes (receives (fresh 2) (f31 ∷ [])) ∷ [])
+
+abbrev spoken : State
+spoken = receives (marks followed) (f32 ∷ [])
+
+abbrev foundFading : List (List ℕ)
+foundFading = entries (writes followed) ∷ entries (writes spoken) ∷ entries (writes (marks spoken)) ∷ []
+
 abbrev sameNumbers : List ℕ → List ℕ → Bool
 sameNumbers [] [] = true
 sameNumbers [] (y ∷ ys) = false
@@ -281,5 +291,6 @@ equal (x ∷ xs) (y ∷ ys) = sameNumbers x y && equal xs ys
 
 pub examples : T (equal found starred) × T (equal foundPinned pinned) × T (equal foundShort short) × T (equal foundClicks clicks)
     × T (equal foundCounted counted) × T (equal foundConverted converted) × T (equal foundTails tails) × T (equal foundChains chains)
+    × T (equal foundFading fading)
 unfolding isDesk isNumber boxRule at2 at4 bytes2 bytes4 pastIn fieldsOf headOf frameOf lengthBad versionBad countBad partBad fieldsBad entryBad entriesBad outputShort readFields readEntries writeSize same isHead heads previous ready missingEntries lacksPrevious missing reckoning falseEntries falseStamp concurrent new fieldsOfMark frameOfMark sizeOfMark markIn full newMark markAnswer mark refuse executing arrive unmade sameFields receiveMark receive relate apartOf firstApart frameAgainSize frameAgainBytes toSecondMark toSecondSize toSecondBytes toFirstMark toFirstSize toFirstBytes chain inPast evidence evidenceChain evidencePairs
-examples = (tt, tt, tt, tt, tt, tt, tt, tt)
+examples = (tt, tt, tt, tt, tt, tt, tt, tt, tt)

@@ -20,6 +20,7 @@ pub mod Conversions
 pub mod RowLaws
 pub mod Apart
 pub mod Tail
+pub mod Silent
 pub mod RowCounts
 pub mod EvidenceLaws
 pub mod Laws

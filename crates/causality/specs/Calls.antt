@@ -283,3 +283,9 @@ pub data FromCalls (N : ℕ) : State → Type 0 where
   created : (d : ℕ) → FromCalls N (new N d .state)
   marked : {st : State} → FromCalls N st → (b : MarkBox) (out : List ℕ) → FromCalls N (mark N st b out .state)
   received : {st : State} → FromCalls N st → (s : List ℕ) → FromCalls N (receive N st s .state)
+
+-- What further calls make of a desk, whatever bytes they are lent.
+pub data Later (N : ℕ) (st : State) : State → Type 0 where
+  as-it-is : Later N st st
+  then-marked : {x : State} → Later N st x → (b : MarkBox) (out : List ℕ) → Later N st (mark N x b out .state)
+  then-received : {x : State} → Later N st x → (s : List ℕ) → Later N st (receive N x s .state)

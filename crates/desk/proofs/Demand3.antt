@@ -13,7 +13,7 @@ use Rattle.causality.specs.Evidence.{evidence, evidencePairs}
 use Rattle.causality.specs.Marks.{All}
 use Rattle.causality.specs.Meaning.{idOf}
 use Rattle.causality.specs.State.{State}
-use Rattle.desk.specs.Demand3.{CallRun, CallsAgree, Demand3Calls, Runs, afterConvert, afterMark, afterMiss, afterReceive, converts1, converts1-misses, converts2, converts2-misses, marks, misses, receives, starts, statesOf}
+use Rattle.desk.specs.Demand3.{CallRun, CallsAgree, Demand3Calls, Runs, afterConvert, afterMark, afterMiss, afterReceive, converts1, converts1-misses, converts2, converts2-misses, deskAt, marks, misses, receives, starts, statesOf}
 use Rattle.desk.specs.Promises.{NewPromise}
 use Rattle.desk.specs.StateOf.{stateOf}
 use Rattle.history.specs.Demand3.{Agree}
@@ -21,6 +21,7 @@ use Rattle.history.specs.Plain.{look, ofMark, ofReceive, plain}
 use Rattle.history.specs.Run.{Run, Step, atDesk, converted, fed, handing, marking, run, runStep, stateAt, toFirst, toSecond, withoutMissing, written}
 use Rattle.history.proofs.Evidence.{evidence-holds}
 use Rattle.history.proofs.MarkRun.{fresh}
+use Rattle.history.proofs.Silent.{silent-desk-leaves}
 use Rattle.history.proofs.Theorem.{consequences, demand3}
 
 module _ (fresh : ℕ → CreatedDesk) (news : (d : ℕ) → NewPromise d (fresh d)) where
@@ -87,12 +88,19 @@ module _ (fresh : ℕ → CreatedDesk) (news : (d : ℕ) → NewPromise d (fresh
     follows = rw (same-run rs) (consequences desks s at);
     relates = λ d t a b r p. p .answer ∙ ap (λ (x : State). relate x (idOf a) (idOf b)) (state-at (c .given) d) ∙ same .desks d t .relates (idOf a) (idOf b);
     proves = λ d t a b out after r p.
-        let st = state-at (c .given) d ∙ ap (λ (x : Run). stateAt desks x d) (same-run rs) in
+        let st = in-run d in
         let answer = p .answer ∙ ap (λ (x : State). evidence x (idOf a) (idOf b) (length out)) st ∙ ap (evidence (stateAt desks (run desks s) d) (idOf a) (idOf b)) (sym (length-map out idOf)) in
         let pairs = p .pairs ∙ ap (λ (x : State). evidencePairs x (idOf a) (idOf b) (map idOf out)) st in
         rw (answer, pairs) (evidence-holds desks s at d t (idOf a) (idOf b) (map idOf out));
+    leaves = λ x d t q b lent after r p.
+        let answer = p .answer ∙ ap (λ (y : State). (mark desks y b lent) .answer) (in-run x) in
+        let bytes = p .bytes ∙ ap (λ (y : State). (mark desks y b lent) .bytes) (in-run x) in
+        rw (answer, bytes) (silent-desk-leaves desks s at x d t q b lent);
   }
     where
+      in-run : (d : ℕ) → stateOf (deskAt fresh c d) ≡ stateAt desks (run desks s) d
+      in-run d = state-at (c .given) d ∙ ap (λ (x : Run). stateAt desks x d) (same-run rs)
+
       same : Agree desks (statesOf c) (plain (fed s))
       same = rw (same-run rs) (demand3 desks s at)
 

@@ -1,5 +1,6 @@
 -- THE CLAIM. Demand 3 of the calls: over every sequence of markings, hand-overs of frames of either edition and conversions, whatever New, Mark,
--- Receive and the converter did within their promises, desks and plain machine agree, Relate answers as the history has it, and so does Evidence.
+-- Receive and the converter did within their promises, desks and plain machine agree, Relate answers as the history has it, so does Evidence, and a
+-- silent desk leaves the stamps.
 use mathlib.Core.Path.{_≡_}
 use mathlib.Core.List.{List, [], _∷_, map}
 use mathlib.Core.Option.{none, some}
@@ -17,6 +18,7 @@ use Rattle.history.specs.Plain.{StepAnswer, ofMark, ofReceive, Unmade, look, pl
 use Rattle.history.specs.Run.{Step, marking, handing, toSecond, toFirst, atDesk, fed, Written, writtenId, written, converted, frameAt, Run, withoutMissing}
 use Rattle.history.specs.Demand3.{Agree, Consequent}
 use Rattle.history.specs.Evidence.{ProvedBy}
+use Rattle.history.specs.Silent.{Silent, NoneNames}
 use Rattle.desk.specs.declared.Desk.{Desk}
 use Rattle.desk.specs.declared.CreatedDesk.{CreatedDesk}
 use Rattle.desk.specs.declared.MarkedDesk.{MarkedDesk}
@@ -106,6 +108,9 @@ pub record CallsAgree (fresh : ℕ → CreatedDesk) (s : List Step) (c : CallRun
   pub proves : (d : ℕ) → T (isDesk desks d) → (a b : CodeId) (out after : List CodeId) (r : EvidenceDesk)
       → EvidencePromise (deskAt fresh c d) a b out after r
       → ProvedBy ((plain (fed s)) .made) (listsAt (plain (fed s)) d) (idOf a) (idOf b) (map idOf out) (proving (r .answer)) (map idOf after)
+  -- Order 6, "A silent desk leaves the stamps": desk d is silent at desk x, and Mark makes a mark there.
+  pub leaves : (x d : ℕ) → T (isDesk desks x) → Silent s x d → (b : MarkBox) (lent after : List ℕ) (r : MarkedDesk)
+      → MarkPromise (deskAt fresh c x) b lent after r → NoneNames desks d (written x (numbering (r .answer)) after [])
 
 abbrev pub Demand3Calls : Type 0
 Demand3Calls = (fresh : ℕ → CreatedDesk) → ((d : ℕ) → NewPromise d (fresh d)) → (s : List Step) → All (λ t. T (atDesk desks t)) s

@@ -3,15 +3,12 @@ use Prim.Native.Nat.{_≤_, ℕ}
 use lib.ListN.{length}
 use mathlib.Core.List.{List, [], _++_, _∷_}
 use mathlib.Core.Path.{_≡_}
-use native.Mathlib.Omega.{arith}
-use Rattle.frame.specs.Mark.{MarkId, desks, isDesk}
+use Rattle.frame.specs.Mark.{MarkId, desks}
 use Rattle.causality.specs.Evidence.{evidence, evidencePairs}
 use Rattle.causality.specs.Marks.{All}
 use Rattle.causality.specs.State.{Mark, State}
 use Rattle.causality.proofs.EvidenceLaws.{Agrees, in-past-of, proves}
-use Rattle.causality.proofs.Fit.{desk-facts}
 use Rattle.causality.proofs.Lists.{all-ids, all-map}
-use Rattle.causality.proofs.Logic.{T→eq}
 use Rattle.causality.proofs.Past.{precedes-past}
 use Rattle.causality.proofs.Reckoning.{Once}
 use Rattle.history.specs.Evidence.{EvidenceHolds, ProvedBy, happenedBefore, ofPast}
@@ -19,7 +16,7 @@ use Rattle.history.specs.Plain.{MadeMark, lastOfPast, listsAt, pastOf}
 use Rattle.history.specs.Run.{Step}
 use Rattle.history.proofs.MarkRun.{markStateAt, runMarks}
 use Rattle.history.proofs.Sequence.{AtDesks, InvAt, inv-of, plainOf, same-run}
-use Rattle.history.proofs.Theorem.{at-desk}
+use Rattle.history.proofs.Theorem.{at-desk, some-desk}
 
 all-front : (P : Mark → Type 0) (ms ns : List Mark) → All P (ms ++ ns) → All P ms
 all-front P [] ns a = tt
@@ -49,9 +46,8 @@ module _ (N : ℕ) (some-desk : 1 ≤ N) (s : List Step) (at : AtDesks N s) (d :
 
 pub evidence-holds : (N : ℕ) → EvidenceHolds N
 evidence-holds N s at d t a b lent =
-    let p = desk-facts N d (T→eq (isDesk N d) t) in
-    let some-desk : 1 ≤ N = omega arith in
-    rw (same-run N some-desk s at) (proved-by N some-desk s at d a b lent)
+    let p = some-desk N d t in
+    rw (same-run N p s at) (proved-by N p s at d a b lent)
 
 -- At the document's count of desks.
 pub evidence-holds-ours : EvidenceHolds desks

@@ -252,8 +252,11 @@ module _ (N : ℕ) (some-desk : 1 ≤ N) (s : List Step) (at : AtDesks N s) wher
 
 -- THE THEOREMS
 
+pub some-desk : (N d : ℕ) → T (isDesk N d) → 1 ≤ N
+some-desk N d t = let p = desk-facts N d (T→eq (isDesk N d) t) in omega arith
+
 no-desk : (N d : ℕ) → N < 1 → T (isDesk N d) → ⊥
-no-desk N d n t = let p = desk-facts N d (T→eq (isDesk N d) t) in omega arith
+no-desk N d n t = let p = some-desk N d t in omega arith
 
 -- Without a desk nothing happens.
 record Idle (N : ℕ) (s : List Step) : Type 0 where

@@ -1,0 +1,106 @@
+-- Order 6 at one desk, whatever bytes it was lent: what is executed stays, with its past, so a mark that follows all of a desk goes on doing so. Assumes nothing.
+use Prim.Native.Nat.{_≤_, suc, zero, ℕ}
+use lib.Dec.{T, T-not, eqb, eqb→eq, not-T}
+use lib.ListN.{length}
+use mathlib.Core.Bool.{Bool, false, not, true}
+use mathlib.Core.List.{List, _∷_}
+use mathlib.Core.Option.{Option, none, some}
+use mathlib.Core.Path.{_∙_, _≡_, refl}
+use Rattle.frame.specs.declared.MarkBox.{MarkBox}
+use Rattle.frame.specs.Answer.{Answer, gives, refused}
+use Rattle.frame.specs.Mark.{MarkId}
+use Rattle.causality.specs.Answers.{Numbered}
+use Rattle.causality.specs.Calls.{FromCalls, Later, Received, as-it-is, execute, executing, mark, markAnswer, markIn, marked, newMark, receive, received, release, stateIf, then-marked, then-received}
+use Rattle.causality.specs.Marks.{any, has, lowest, same, without}
+use Rattle.causality.specs.Silent.{Leaves, SilentLeaves, SilentLeavesLater, names}
+use Rattle.causality.specs.State.{Mark, State, falseStamp, heads, ids, isHead, markId, precedes, ready, reckoned}
+use Rattle.causality.proofs.Cases.{ReceiveCase, executes, received-case, stays, waits}
+use Rattle.causality.proofs.Kept.{kept}
+use Rattle.causality.proofs.Lists.{any-find, any-of}
+use Rattle.causality.proofs.Logic.{or-inr}
+use Rattle.causality.proofs.Past.{heads-has}
+use Rattle.causality.proofs.Reach.{Sound, local, not-new, precedes-old}
+
+-- AS IT STANDS
+
+pub silent-leaves : (st : State) → SilentLeaves st
+unfolding newMark isHead
+silent-leaves st d m f = record { head = none-of; stamp = λ b. none-of }
+  where
+    l : List Mark
+    l = st .executed
+
+    none-of : T (not (names d (heads l)))
+    none-of = not-T (names d (heads l)) (λ t.
+        let r = any-find (λ e. eqb (e .desk) d) (heads l) t in
+        let h = heads-has (local l) l (r .0) (r .1) in
+        T-not (any (λ k. precedes l (r .0) k) (ids l)) (h .1) (any-of (λ k. precedes l (r .0) k) (ids l) m (f .listed) (f .every (r .0) (h .0) (eqb→eq (r .0 .desk) d (r .2)))))
+
+-- WHAT IS EXECUTED STAYS
+
+-- A list with newer marks before it.
+data Newer (l : List Mark) : List Mark → Type 0 where
+  none-newer : Newer l l
+  one-newer : {k : List Mark} (m : Mark) → Newer l k → Newer l (m ∷ k)
+
+newer-all : {l k j : List Mark} → Newer l k → Newer k j → Newer l j
+newer-all a none-newer = a
+newer-all a (one-newer m b) = one-newer m (newer-all a b)
+
+release-newer : (turns : ℕ) (l ws : List Mark) (k f : ℕ) → Newer l ((release turns l ws k f) .executed)
+release-newer zero l ws k f = none-newer
+release-newer (suc turns) l ws k f = go (lowest markId (ready l) ws) refl (release-newer turns)
+  where
+    go : (o : Option Mark) → lowest markId (ready l) ws ≡ o → ((l ws : List Mark) (k f : ℕ) → Newer l ((release turns l ws k f) .executed))
+        → Newer l ((release (suc turns) l ws k f) .executed)
+    go none e ih = rw (e, release) none-newer
+    go (some w) e ih = by (falseStamp l w) refl
+      where
+        by : (b : Bool) → falseStamp l w ≡ b → Newer l ((release (suc turns) l ws k f) .executed)
+        by true x = rw (e, release) (rw x (ih l (without markId (w .id) ws) k (suc f)))
+        by false x = rw (e, release) (rw x (newer-all (one-newer (reckoned l w) none-newer) (ih (reckoned l w ∷ l) (without markId (w .id) ws) (suc k) f)))
+
+receive-newer : (st : State) (m : Mark) (r : Received) → ReceiveCase st m r → Newer (st .executed) (r .state .executed)
+unfolding executing
+receive-newer st m r (stays a z) = none-newer
+receive-newer st m r (waits a b c n p) = none-newer
+receive-newer st m r (executes a b c) = newer-all (one-newer (reckoned (st .executed) m) none-newer) (release-newer (length (st .waiting)) (reckoned (st .executed) m ∷ st .executed) (st .waiting) 1 0)
+
+mark-newer : (N : ℕ) (st : State) (b : MarkBox) (out : List ℕ) → Newer (st .executed) ((mark N st b out) .state .executed)
+unfolding mark
+mark-newer N st b out = go (markAnswer N st b (length out))
+  where
+    go : (a : Answer Numbered) → Newer (st .executed) ((stateIf a (execute (newMark st b) st) st) .executed)
+    go (gives n) = one-newer (newMark st b) none-newer
+    go (refused c) = none-newer
+
+later-newer : (N : ℕ) {st later : State} → Later N st later → Newer (st .executed) (later .executed)
+later-newer N as-it-is = none-newer
+later-newer N (then-marked {x} p b out) = newer-all (later-newer N p) (mark-newer N x b out)
+later-newer N (then-received {x} p s) = newer-all (later-newer N p) (receive-newer x (markIn N s) (receive N x s) (received-case N x s))
+
+-- Marks stay, and so do their pasts.
+newer-has : {l k : List Mark} → Newer l k → (a : MarkId) → T (has a (ids l)) → T (has a (ids k))
+newer-has none-newer a t = t
+newer-has (one-newer {k} m n) a t = or-inr (same a (m .id)) (has a (ids k)) (newer-has n a t)
+
+newer-precedes : {l k : List Mark} → Newer l k → Sound k → (a b : MarkId) → T (has b (ids l)) → precedes k a b ≡ precedes l a b
+newer-precedes none-newer s a b t = refl
+newer-precedes (one-newer {k} m n) s a b t = precedes-old m k a b (not-new m k s b (newer-has n b t)) ∙ newer-precedes n (s .1) a b t
+
+-- AFTERWARDS
+
+pub from-later : (N : ℕ) {st later : State} → FromCalls N st → Later N st later → FromCalls N later
+from-later N c as-it-is = c
+from-later N c (then-marked p b out) = marked (from-later N c p) b out
+from-later N c (then-received p s) = received (from-later N c p) s
+
+pub silent-leaves-later : (N : ℕ) → 1 ≤ N → {st : State} → FromCalls N st → SilentLeavesLater N st
+silent-leaves-later N some-desk {st} from d m f later p u =
+    let n = later-newer N p in
+    let s : Sound (later .executed) = kept N some-desk (from-later N from p) .reach .sound in
+    silent-leaves later d m (record {
+      listed = newer-has n m (f .listed);
+      other = f .other;
+      every = λ a t q. rw (newer-precedes n s a m (f .listed)) (f .every a (u .silent a t q) q);
+    })

@@ -1,0 +1,122 @@
+-- Order 6 over sequences: the law of one desk, carried into the history by demand 3. Assumes nothing.
+use Prim.Native.Nat.{_≤_, ℕ}
+use lib.Dec.{T}
+use mathlib.Core.List.{List, [], _++_, _∷_}
+use mathlib.Core.Option.{Option, none, some}
+use mathlib.Core.Path.{_∙_, _≡_, ap, refl, subst, sym}
+use Rattle.frame.specs.declared.MarkBox.{MarkBox}
+use Rattle.frame.specs.Frame.{entriesOf, readEntries}
+use Rattle.frame.specs.Mark.{MarkId, desks, isDesk}
+use Rattle.causality.specs.Calls.{FromCalls, Later, as-it-is, created, mark, newMark, receive, then-marked, then-received}
+use Rattle.causality.specs.Marks.{All, has}
+use Rattle.causality.specs.State.{State, ids, precedes}
+use Rattle.causality.proofs.Fit.{fit-entries}
+use Rattle.causality.proofs.Kept.{Kept, kept}
+use Rattle.causality.proofs.Lists.{all-map}
+use Rattle.causality.proofs.Past.{precedes-past}
+use Rattle.causality.proofs.Reach.{local, local-hist}
+use Rattle.causality.proofs.Silent.{from-later, silent-leaves-later}
+use Rattle.history.specs.Demand3.{entriesIn}
+use Rattle.history.specs.Evidence.{happenedBefore}
+use Rattle.history.specs.Plain.{DeskLists, look, madeIds}
+use Rattle.history.specs.Run.{Run, Step, Written, atDesk, frameAt, handing, marking, run, runStep, stateAt, toFirst, toSecond, written, writtenId}
+use Rattle.history.specs.Silent.{FollowedAlike, Silent, SilentDeskLeaves, listedAt}
+use Rattle.history.proofs.Calls.{MarkCase, declined, granted, made-ids, mark-cases, mark-front}
+use Rattle.history.proofs.MarkRun.{fresh, look-new, markStateAt, runMarks}
+use Rattle.history.proofs.Sequence.{AtDesks, inv-of, pastAt, plainOf, same-run}
+use Rattle.history.proofs.Theorem.{some-desk}
+
+-- DEMAND 3: at desk x the list is the executed marks, and what happened before is what precedes.
+
+module _ (N : ℕ) (s : List Step) (at : AtDesks N s) (x : ℕ) (tx : T (isDesk N x)) where
+  abbrev st : State
+  st = stateAt N (run N s) x
+
+  sd : 1 ≤ N
+  sd = some-desk N x tx
+
+  listed-executed : listedAt s x ≡ ids (st .executed)
+  listed-executed = rw (same-run N sd s at) (ap (λ (l : DeskLists). madeIds (l .listed)) (inv-of N sd s at .lists x) ∙ made-ids (pastAt N sd s) ((markStateAt N (runMarks N s) x) .executed))
+
+  before-precedes : (a b : MarkId) → T (has b (ids (st .executed))) → precedes (st .executed) a b ≡ happenedBefore (plainOf s .made) a b
+  before-precedes = rw (same-run N sd s at) (precedes-past (pastAt N sd s) ((markStateAt N (runMarks N s) x) .executed) (inv-of N sd s at .ok x .hist))
+
+pub followed-alike : (N : ℕ) → FollowedAlike N
+followed-alike N s at x d m tx = (
+  λ f. record { listed = l m (f .listed); other = f .other; every = λ a t q. rw (p a m (l m (f .listed))) (f .every a (r a t) q) },
+  λ f. record { listed = r m (f .listed); other = f .other; every = λ a t q. rw (p a m (f .listed)) at (f .every a (l a t) q) },
+)
+  where
+    p : (a b : MarkId) → T (has b (ids (st N s at x tx .executed))) → precedes (st N s at x tx .executed) a b ≡ happenedBefore (plainOf s .made) a b
+    p = before-precedes N s at x tx
+
+    l : (a : MarkId) → T (has a (listedAt s x)) → T (has a (ids (st N s at x tx .executed)))
+    l a t = rw (listed-executed N s at x tx) at t
+
+    r : (a : MarkId) → T (has a (ids (st N s at x tx .executed))) → T (has a (listedAt s x))
+    r a t = rw (listed-executed N s at x tx) t
+
+-- THE CALLS AT ONE DESK
+
+-- Each step gives desk x as it was, or as Mark or Receive there gives it.
+module _ (N x : ℕ) (from : State) where
+  put-later : (r : Run) (d : ℕ) (y : State) → (Later N from (stateAt N r d) → Later N from y) → Later N from (stateAt N r x)
+      → Later N from (look (fresh N) ((d, y) ∷ r .states) x)
+  put-later r d y f p = look-new (λ e z. e ≡ x → Later N from z) (fresh N) (r .states) d y (λ q. f (subst (λ (n : ℕ). Later N from (stateAt N r n)) (sym q) p)) x (λ q. p) refl
+
+  step-later : (r : Run) (t : Step) → Later N from (stateAt N r x) → Later N from (stateAt N (runStep N r t) x)
+  step-later r (marking d b lent) p = put-later r d ((mark N (stateAt N r d) b lent) .state) (λ q. then-marked q b lent) p
+  step-later r (handing d i k) p = go (frameAt writtenId i k (r .frames)) refl
+    where
+      go : (o : Option Written) → frameAt writtenId i k (r .frames) ≡ o → Later N from (stateAt N (runStep N r (handing d i k)) x)
+      go none e = rw (e, runStep) p
+      go (some f) e = rw (e, runStep) (put-later r d ((receive N (stateAt N r d) (f .bytes)) .state) (λ q. then-received q (f .bytes)) p)
+  step-later r (toSecond d i k lent) p = go (frameAt writtenId i k (r .frames)) refl
+    where
+      go : (o : Option Written) → frameAt writtenId i k (r .frames) ≡ o → Later N from (stateAt N (runStep N r (toSecond d i k lent)) x)
+      go none e = rw (e, runStep) p
+      go (some f) e = rw (e, runStep) p
+  step-later r (toFirst i k lent) p = go (frameAt writtenId i k (r .frames)) refl
+    where
+      go : (o : Option Written) → frameAt writtenId i k (r .frames) ≡ o → Later N from (stateAt N (runStep N r (toFirst i k lent)) x)
+      go none e = rw (e, runStep) p
+      go (some f) e = rw (e, runStep) p
+
+run-later : (N x : ℕ) (since earlier : List Step) → Later N (stateAt N (run N earlier) x) (stateAt N (run N (since ++ earlier)) x)
+run-later N x [] earlier = as-it-is
+run-later N x (t ∷ since) earlier = step-later N x (stateAt N (run N earlier) x) (run N (since ++ earlier)) t (run-later N x since earlier)
+
+run-from : (N x : ℕ) (s : List Step) → FromCalls N (stateAt N (run N s) x)
+run-from N x [] = created x
+run-from N x (t ∷ s) = from-later N (run-from N x s) (run-later N x (t ∷ []) s)
+
+-- What Mark writes has the new mark's stamp.
+mark-writes : (N : ℕ) (sd : 1 ≤ N) (st : State) (b : MarkBox) (lent : List ℕ) (x : ℕ) → Kept N sd st
+    → let o = mark N st b lent in All (λ f. entriesIn N f ≡ newMark st b .stamp) (written x (o .answer) (o .bytes) [])
+mark-writes N sd st b lent x k = go (mark-cases (local (st .executed)) (λ m. Unit {0}) N sd st b lent (local-hist (st .executed) (k .reach .sound)) k)
+  where
+    go : MarkCase (local (st .executed)) (λ m. Unit {0}) N st b lent
+        → let o = mark N st b lent in All (λ f. entriesIn N f ≡ newMark st b .stamp) (written x (o .answer) (o .bytes) [])
+    go (declined c e₁ e₂) = rw e₁ tt
+    go (granted n e₁ e₂ fit en) =
+        rw (e₁, en) (ap (λ (f : List ℕ). entriesOf (readEntries N f)) (mark-front N (newMark st b) lent) ∙ fit-entries N (newMark st b) fit, tt)
+
+-- THE CLAIM
+
+all-back : {A : Type 0} (P : A → Type 0) (xs ys : List A) → All P (xs ++ ys) → All P ys
+all-back P [] ys a = a
+all-back P (x ∷ xs) ys a = all-back P xs ys (a .1)
+
+pub silent-desk-leaves : (N : ℕ) → SilentDeskLeaves N
+silent-desk-leaves N s at x d tx p b lent =
+    let sd = some-desk N x tx in
+    let before = all-back (λ t. T (atDesk N t)) (p .since) (p .earlier) (subst (λ (r : List Step). AtDesks N r) (p .steps) at) in
+    let st : State = stateAt N (run N s) x in
+    let later = subst (λ (r : List Step). Later N (stateAt N (run N (p .earlier)) x) (stateAt N (run N r) x)) (sym (p .steps)) (run-later N x (p .since) (p .earlier)) in
+    let leaves = silent-leaves-later N sd (run-from N x (p .earlier)) d (p .m) (followed-alike N (p .earlier) before x d (p .m) tx .0 (p .followed)) st later
+    (record { silent = λ a t q. rw (listed-executed N (p .earlier) before x tx) at (p .until .silent a (rw (listed-executed N s at x tx) t) q) }) in
+    all-map (λ f e. rw e (leaves .stamp b)) (written x ((mark N st b lent) .answer) ((mark N st b lent) .bytes) []) (mark-writes N sd st b lent x (kept N sd (run-from N x s)))
+
+-- At the document's count of desks.
+pub silent-desk-leaves-ours : SilentDeskLeaves desks
+silent-desk-leaves-ours = silent-desk-leaves desks
