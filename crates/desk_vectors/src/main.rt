@@ -9,6 +9,7 @@ mod missing;
 mod refusals;
 mod scenario;
 mod show;
+mod silent;
 mod sixteen;
 mod sums;
 mod tails;
@@ -24,6 +25,7 @@ fn main() {
     editions::run();
     tails::run();
     chains::run();
+    silent::run();
     limits::waiting();
     limits::full();
     sixteen::run();

@@ -1,10 +1,10 @@
--- Order 6, computed by the run over bytes: a silent desk's entry fades, and no clause of the rule can be left out. Assumes nothing.
+-- Order 6, computed by the run over bytes: a silent desk's entry fades, and "executed", "every" and "until" are each needed. Assumes nothing.
 use Prim.Native.Nat.{ℕ}
 use borrow.Author.Tests.{eq-eqb}
 use lib.Dec.{T, eqb}
 use lib.ListN.{replicate}
-use mathlib.Core.Bool.{Bool, _&&_, _||_, false, not, true}
-use mathlib.Core.List.{List, [], _++_, _∷_}
+use mathlib.Core.Bool.{Bool, _&&_, _||_, false, not}
+use mathlib.Core.List.{List, [], _∷_}
 use mathlib.Core.Path.{subst}
 use native.Mathlib.Omega.{arith}
 use Rattle.frame.specs.Frame.{at2, at4, bytes2, bytes4, countBad, entriesBad, entryBad, fieldsBad, fieldsOf, frameOf, headOf, lengthBad, outputShort, partBad, pastIn, readEntries, readFields, versionBad, writeSize}

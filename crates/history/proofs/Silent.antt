@@ -2,6 +2,7 @@
 use Prim.Native.Nat.{_≤_, ℕ}
 use lib.Dec.{T}
 use mathlib.Core.List.{List, [], _++_, _∷_}
+use mathlib.Core.Logic.{_↔_}
 use mathlib.Core.Option.{Option, none, some}
 use mathlib.Core.Path.{_∙_, _≡_, ap, refl, subst, sym}
 use Rattle.frame.specs.declared.MarkBox.{MarkBox}
@@ -9,6 +10,7 @@ use Rattle.frame.specs.Frame.{entriesOf, readEntries}
 use Rattle.frame.specs.Mark.{MarkId, desks, isDesk}
 use Rattle.causality.specs.Calls.{FromCalls, Later, as-it-is, created, mark, newMark, receive, then-marked, then-received}
 use Rattle.causality.specs.Marks.{All, has}
+use Rattle.causality.specs.Silent.{FollowedHere}
 use Rattle.causality.specs.State.{State, ids, precedes}
 use Rattle.causality.proofs.Fit.{fit-entries}
 use Rattle.causality.proofs.Kept.{Kept, kept}
@@ -20,7 +22,7 @@ use Rattle.history.specs.Demand3.{entriesIn}
 use Rattle.history.specs.Evidence.{happenedBefore}
 use Rattle.history.specs.Plain.{DeskLists, look, madeIds}
 use Rattle.history.specs.Run.{Run, Step, Written, atDesk, frameAt, handing, marking, run, runStep, stateAt, toFirst, toSecond, written, writtenId}
-use Rattle.history.specs.Silent.{FollowedAlike, Silent, SilentDeskLeaves, listedAt}
+use Rattle.history.specs.Silent.{FollowedAlike, FollowedAt, Silent, SilentDeskLeaves, listedAt}
 use Rattle.history.proofs.Calls.{MarkCase, declined, granted, made-ids, mark-cases, mark-front}
 use Rattle.history.proofs.MarkRun.{fresh, look-new, markStateAt, runMarks}
 use Rattle.history.proofs.Sequence.{AtDesks, inv-of, pastAt, plainOf, same-run}
@@ -38,23 +40,23 @@ module _ (N : ℕ) (s : List Step) (at : AtDesks N s) (x : ℕ) (tx : T (isDesk 
   listed-executed : listedAt s x ≡ ids (st .executed)
   listed-executed = rw (same-run N sd s at) (ap (λ (l : DeskLists). madeIds (l .listed)) (inv-of N sd s at .lists x) ∙ made-ids (pastAt N sd s) ((markStateAt N (runMarks N s) x) .executed))
 
+  in-state : (a : MarkId) → T (has a (listedAt s x)) → T (has a (ids (st .executed)))
+  in-state a t = rw listed-executed at t
+
+  in-list : (a : MarkId) → T (has a (ids (st .executed))) → T (has a (listedAt s x))
+  in-list a t = rw listed-executed t
+
   before-precedes : (a b : MarkId) → T (has b (ids (st .executed))) → precedes (st .executed) a b ≡ happenedBefore (plainOf s .made) a b
   before-precedes = rw (same-run N sd s at) (precedes-past (pastAt N sd s) ((markStateAt N (runMarks N s) x) .executed) (inv-of N sd s at .ok x .hist))
 
+  alike : (d : ℕ) (m : MarkId) → FollowedAt s x d m ↔ FollowedHere st d m
+  alike d m = (
+    λ f. record { listed = in-state m (f .listed); other = f .other; every = λ a t q. rw (before-precedes a m (in-state m (f .listed))) (f .every a (in-list a t) q) },
+    λ f. record { listed = in-list m (f .listed); other = f .other; every = λ a t q. rw (before-precedes a m (f .listed)) at (f .every a (in-state a t) q) },
+  )
+
 pub followed-alike : (N : ℕ) → FollowedAlike N
-followed-alike N s at x d m tx = (
-  λ f. record { listed = l m (f .listed); other = f .other; every = λ a t q. rw (p a m (l m (f .listed))) (f .every a (r a t) q) },
-  λ f. record { listed = r m (f .listed); other = f .other; every = λ a t q. rw (p a m (f .listed)) at (f .every a (l a t) q) },
-)
-  where
-    p : (a b : MarkId) → T (has b (ids (st N s at x tx .executed))) → precedes (st N s at x tx .executed) a b ≡ happenedBefore (plainOf s .made) a b
-    p = before-precedes N s at x tx
-
-    l : (a : MarkId) → T (has a (listedAt s x)) → T (has a (ids (st N s at x tx .executed)))
-    l a t = rw (listed-executed N s at x tx) at t
-
-    r : (a : MarkId) → T (has a (ids (st N s at x tx .executed))) → T (has a (listedAt s x))
-    r a t = rw (listed-executed N s at x tx) t
+followed-alike N s at x d m tx = alike N s at x tx d m
 
 -- THE CALLS AT ONE DESK
 
@@ -113,8 +115,8 @@ silent-desk-leaves N s at x d tx p b lent =
     let before = all-back (λ t. T (atDesk N t)) (p .since) (p .earlier) (subst (λ (r : List Step). AtDesks N r) (p .steps) at) in
     let st : State = stateAt N (run N s) x in
     let later = subst (λ (r : List Step). Later N (stateAt N (run N (p .earlier)) x) (stateAt N (run N r) x)) (sym (p .steps)) (run-later N x (p .since) (p .earlier)) in
-    let leaves = silent-leaves-later N sd (run-from N x (p .earlier)) d (p .m) (followed-alike N (p .earlier) before x d (p .m) tx .0 (p .followed)) st later
-    (record { silent = λ a t q. rw (listed-executed N (p .earlier) before x tx) at (p .until .silent a (rw (listed-executed N s at x tx) t) q) }) in
+    let leaves = silent-leaves-later N sd (run-from N x (p .earlier)) d (p .m) (alike N (p .earlier) before x tx d (p .m) .0 (p .followed)) st later
+    (record { silent = λ a t q. in-state N (p .earlier) before x tx a (p .until .silent a (in-list N s at x tx a t) q) }) in
     all-map (λ f e. rw e (leaves .stamp b)) (written x ((mark N st b lent) .answer) ((mark N st b lent) .bytes) []) (mark-writes N sd st b lent x (kept N sd (run-from N x s)))
 
 -- At the document's count of desks.

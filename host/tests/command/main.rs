@@ -55,6 +55,7 @@ fn examples_are_answered_as_stored() {
     assert_eq!(printed(&["run", "editions.txt"], ""), stored("editions.out"));
     assert_eq!(printed(&["run", "first_apart.txt"], ""), stored("first_apart.out"));
     assert_eq!(printed(&["run", "why.txt"], ""), stored("why.out"));
+    assert_eq!(printed(&["run", "silent.txt"], ""), stored("silent.out"));
 }
 
 #[test]
@@ -143,6 +144,18 @@ fn the_picture_of_the_scenario() {
     assert_eq!(picture.matches("class=\"pair\"").count(), 3, "a line for each mark concurrent with 4.1");
     let waiting = printed(&["draw"], "new 1\nnew 2\nmark 1 0 1 0 1\nmark 1 0 1 0 1\nhand 2 1.2\n");
     assert_eq!(waiting.matches("<g class=\"waiting\">").count(), 2, "the hollow box and its sample");
+}
+
+/// Of the six arrows none runs from 3.1 to 1.1, and one from 3.2 to 1.2.
+#[test]
+fn the_picture_of_a_silent_desk() {
+    let picture = printed(&["draw", "silent.txt"], "");
+    assert_eq!(picture, stored("silent.svg"));
+    assert_eq!(picture.matches("class=\"entry\"").count(), 6, "an arrow for each entry of a stamp");
+    for (mark, entries) in [("1.1", "2.1"), ("1.2", "1.1 3.2"), ("1.3", "1.2")] {
+        let title = picture.split("<title>").find(|title| title.starts_with(&format!("{mark}:"))).expect(mark);
+        assert!(title.contains(&format!("; entries: {entries};")), "{title}");
+    }
 }
 
 /// How many boxes and arrows of a picture are of the chain, the sample in the legend among them.

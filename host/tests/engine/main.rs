@@ -15,3 +15,4 @@ mod network;
 mod pair;
 mod pinned;
 mod sequences;
+mod silent;

@@ -1,9 +1,10 @@
 //! An engine and the model, driven together: each answer is compared as it comes.
 use kaungimewe::peers::model::{codec, Model};
 use kaungimewe::peers::{Engine, Stamped};
-use kaungimewe::{Evidence, MarkBox, MarkId, Marked, Reception, Refusal, LARGEST_FRAME};
+use kaungimewe::{reader, Evidence, MarkBox, MarkId, Marked, Reception, Refusal, LARGEST_FRAME};
 
 use crate::answers::Answers;
+use crate::silent::Silence;
 
 /// What lent bytes hold before a call.
 pub const FILL: u8 = 0x77;
@@ -21,12 +22,15 @@ pub struct Pair<E> {
     pub model: Model,
     /// What Receive and the converter have answered.
     pub answers: Answers,
+    /// Which desks are silent here.
+    silence: Silence,
 }
 
 impl<E: Stamped> Pair<E> {
     pub fn new(own: u8) -> Pair<E> {
         let (engine, model) = (E::new(own), Model::new(own));
-        Pair { own, engine: engine.expect("a desk"), model: model.expect("a desk"), answers: Answers::default() }
+        let (engine, model) = (engine.expect("a desk"), model.expect("a desk"));
+        Pair { own, engine, model, answers: Answers::default(), silence: Silence::default() }
     }
 
     /// Calls the engine where the model has answered; after a refusal the desk must be as it was.
@@ -42,13 +46,17 @@ impl<E: Stamped> Pair<E> {
         found
     }
 
-    /// Mark into so many lent bytes: the answer and the frame.
+    /// Mark into so many lent bytes: the answer and the frame, whose stamp names no silent desk.
     pub fn mark(&mut self, extent: MarkBox, lent: usize) -> Result<(Marked, Vec<u8>), Refusal> {
+        self.silence.see(&self.model);
         let (mut expected, mut found) = ([FILL; LENT], [FILL; LENT]);
         let answer = self.model.mark(extent, &mut expected[..lent]);
         let made = self.same(answer, |engine| engine.mark(extent, &mut found[..lent]));
         assert_eq!(found, expected);
-        made.map(|made| (made, found[..made.size].to_vec()))
+        let made = made?;
+        let frame = found[..made.size].to_vec();
+        self.answers.count_stamp(self.silence.judge(&reader(&frame).expect("a frame").stamp()));
+        Ok((made, frame))
     }
 
     /// Mark with a plain box and room: the frame.
