@@ -227,7 +227,9 @@ kaungimewe_write_answer kaungimewe_to2_lent(const uint8_t *desks, const uint16_t
 kaungimewe_new_answer kaungimewe_new(uint8_t own);
 
 /* Mark: the box becomes this desk's next mark, stamped with the heads and executed; its frame, of edition 2, is written
- * to the first `size` of the `lent` bytes at `out`, later bytes keep their values. Refuses with 5 (box), 9, 13. */
+ * to the first `size` of the `lent` bytes at `out`, later bytes keep their values. Refuses with 5 (box), 9, 13.
+ * The stamp does not name a silent desk: once a mark of another desk follows every mark of it that is executed here, no
+ * mark made here names it, until a further mark of it is executed. */
 static inline kaungimewe_mark_answer kaungimewe_mark(kaungimewe_desk *desk, uint32_t start, uint32_t end, uint32_t low,
                                                      uint32_t high, uint8_t *out, size_t lent)
 {

@@ -34,6 +34,9 @@ impl Desk {
 
     /// Mark: the box becomes this desk's next mark, stamped with the heads and executed. Its frame, of edition 2, is
     /// written to the first of the lent bytes; later bytes keep their values. Refuses with 5, 9 and 13.
+    ///
+    /// The stamp does not name a silent desk: once a mark of another desk follows every mark of it that is executed here,
+    /// no mark made here names it, until a further mark of it is executed.
     pub fn mark(&mut self, extent: MarkBox, out: &mut [u8]) -> Result<Marked, Refusal> {
         let MarkBox { start, end, low, high } = extent;
         let abi::Desk { own, count, desks, numbers, boxes, pasts, stamps, tally, heads, last, before, queue } =

@@ -73,6 +73,28 @@ fn the_example() {
     assert_eq!(makes(&mut one), [id(1, 2)]);
 }
 
+/// Section 5 of the paper, Figure 4: once 2.2, which follows site 1's only mark, has come to every site, neither 2.3 nor 3.2
+/// has an item of site 1, "until site 1 is again active".
+#[test]
+fn the_papers_figure_4() {
+    let (mut one, mut two, mut three) = (Pair::<Desk>::new(1), Pair::<Desk>::new(2), Pair::<Desk>::new(3));
+    let (first, other, third) = (one.make(), two.make(), three.make());
+    assert_eq!(two.receive(&first), executed(1, 0));
+    let follows = two.make();
+    assert_eq!(reader(&follows).expect("a frame").stamp(), [id(1, 1), id(2, 1)]);
+    for frame in [&first, &other, &follows] {
+        let _ = one.receive(frame);
+        let _ = three.receive(frame);
+    }
+    assert_eq!(two.receive(&third), executed(1, 0));
+    assert_eq!(makes(&mut two), [id(2, 2), id(3, 1)]);
+    assert_eq!(makes(&mut three), [id(2, 2), id(3, 1)]);
+    let again = one.make();
+    assert_eq!(reader(&again).expect("a frame").stamp(), [id(2, 2)]);
+    assert_eq!(three.receive(&again), executed(1, 0));
+    assert_eq!(makes(&mut three), [id(1, 2), id(3, 2)]);
+}
+
 /// It is no matter in which order the silent desk's mark and its follower come.
 #[test]
 fn the_follower_waits_first() {

@@ -51,6 +51,8 @@ follows it. Of concurrent marks X counts the marks of desk A in the past of B.M,
 past of A.N, fewer than M.
 A frame of edition 2 says PAST, its mark's past count: the number of marks that precede the mark, 0 to 511. `mark` and
 `frame` write edition 2; `receive` takes both.
+`mark` stamps the new mark with the executed marks that precede no other. So a silent desk fades from the stamps: once a
+mark of another desk follows all that is executed of it at D, none made at D names it, until a further one of it is executed.
 M counts the marks that a waiting one is short of: entries of its stamp that are not executed there, and its desk's previous
 mark where that is neither executed nor an entry. K counts the marks executed by the call, F those dropped for a false stamp.
 Words are separated by spaces, numbers are decimal, bytes are hex (- for no bytes). `new D` of a desk that is there gives an
