@@ -1,4 +1,5 @@
--- Order 6, "A silent desk leaves the stamps": over every sequence of steps at desks 1 to N.
+-- Order 6, "A silent desk leaves the stamps": over every sequence of steps at desks 1 to N. "if a desk has executed a mark of another desk that
+-- follows every executed mark of desk d, then no stamp made here afterwards names d, until a further mark of d is executed."
 use Prim.Native.Nat.{ℕ}
 use lib.Dec.{T}
 use mathlib.Core.Bool.{not}
