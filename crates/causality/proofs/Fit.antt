@@ -2,10 +2,10 @@
 use Prim.Native.Nat.{_%_, _*_, _+_, _/_, _<_, _≤_, ℕ}
 use borrow.Author.Tests.{eq-eqb, eqb-true, le-ltb, leb-false, leb-true, lt-leb, not-false}
 use lib.Dec.{T, eqb, eqb→eq, leb, ltb}
-use lib.ListN.{drop, length, length-drop}
-use lib.Seq.{getD-drop}
+use lib.ListN.{drop, length, length-drop, take}
+use lib.Seq.{getD-drop, take-at}
 use mathlib.Core.Bool.{Bool, _&&_, _||_, false, not, true}
-use mathlib.Core.List.{List, [], _∷_}
+use mathlib.Core.List.{List, [], _++_, _∷_}
 use mathlib.Core.Logic.{inl, inr}
 use mathlib.Core.Path.{_∙_, _≡_, ap, refl, sym}
 use native.Mathlib.Omega.{arith}
@@ -190,6 +190,10 @@ module _ (N : ℕ) where
   pub fit-frame-length : (m : Mark) → length (frameOfMark m) ≡ markSize m
   unfolding frameOfMark fieldsOfMark
   fit-frame-length m = frame-length (fieldsOfMark m) (entryBytes (m .stamp)) ∙ ap (λ (n : ℕ). editionOf (m .past) .head + n) (entry-bytes-length (m .stamp))
+
+  -- Bytes that begin with its frame.
+  pub fit-front : (m : Mark) (rest : List ℕ) → take (markSize m) (frameOfMark m ++ rest) ≡ frameOfMark m
+  fit-front m rest = take-at (frameOfMark m) rest (markSize m) (fit-frame-length m)
 
   pub fit-read : (m : Mark) → Fit m → readFields N (frameOfMark m) ≡ gives (fieldsOfMark m)
   unfolding frameOfMark

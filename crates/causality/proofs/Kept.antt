@@ -16,7 +16,7 @@ use Rattle.frame.specs.Answer.{Answer, gives, refused}
 use Rattle.frame.specs.Frame.{pastBad, readFields}
 use Rattle.frame.specs.Mark.{MarkId, boxRule, isDesk, numbers, pasts}
 use Rattle.causality.specs.Answers.{Numbered}
-use Rattle.causality.specs.Calls.{Created, FromCalls, Received, created, earlier, empty, execute, executing, full, ifRead, mark, markAnswer, markIn, marked, new, newMark, receive, receiveMark, received, refuse, release, stateIf}
+use Rattle.causality.specs.Calls.{Created, FromCalls, Received, begun, earlier, empty, execute, executing, full, ifRead, mark, markAnswer, markIn, marked, new, newMark, receive, receiveMark, received, refuse, release, stateIf}
 use Rattle.causality.specs.Marks.{All, has, lowest, places, tally, without}
 use Rattle.causality.specs.State.{Mark, State, falseStamp, heads, ids, markId, ready, reckoned, reckoning, withPast}
 use Rattle.causality.proofs.Cases.{ReceiveCase, executes, mark-gives, receive-case, stays, waits}
@@ -166,7 +166,7 @@ module _ (N : ℕ) (some-desk : 1 ≤ N) where
 
   pub kept : {st : State} → FromCalls N st → Kept st
   unfolding new
-  kept (created d) = go (isDesk N d) refl
+  kept (begun d) = go (isDesk N d) refl
     where
       go : (b : Bool) → isDesk N d ≡ b → Kept ((elim b as (λ x. Created) [ true ↦ record { state = empty d; answer = gives d } | false ↦ record { state = empty 1; answer = refused 1 } ]) .state)
       go true e = let p = desk-facts N d e in empty-kept d (p .0) (p .1)

@@ -10,7 +10,7 @@ use Rattle.frame.specs.declared.MarkBox.{MarkBox}
 use Rattle.frame.specs.Answer.{Answer, gives, refused}
 use Rattle.frame.specs.Mark.{MarkId}
 use Rattle.causality.specs.Answers.{Numbered}
-use Rattle.causality.specs.Calls.{FromCalls, Later, Received, as-it-is, execute, executing, mark, markAnswer, markIn, marked, newMark, receive, received, release, stateIf, then-marked, then-received}
+use Rattle.causality.specs.Calls.{FromCalls, Later, Received, begun, execute, executing, mark, markAnswer, markIn, marked, newMark, receive, received, release, stateIf}
 use Rattle.causality.specs.Marks.{any, has, lowest, same, without}
 use Rattle.causality.specs.Silent.{Leaves, SilentLeaves, SilentLeavesLater, names}
 use Rattle.causality.specs.State.{Mark, State, falseStamp, heads, ids, isHead, markId, precedes, ready, reckoned}
@@ -75,9 +75,9 @@ mark-newer N st b out = go (markAnswer N st b (length out))
     go (refused c) = none-newer
 
 later-newer : (N : ℕ) {st later : State} → Later N st later → Newer (st .executed) (later .executed)
-later-newer N as-it-is = none-newer
-later-newer N (then-marked {x} p b out) = newer-all (later-newer N p) (mark-newer N x b out)
-later-newer N (then-received {x} p s) = newer-all (later-newer N p) (receive-newer x (markIn N s) (receive N x s) (received-case N x s))
+later-newer N (begun u) = none-newer
+later-newer N (marked {st = x} p b out) = newer-all (later-newer N p) (mark-newer N x b out)
+later-newer N (received {st = x} p s) = newer-all (later-newer N p) (receive-newer x (markIn N s) (receive N x s) (received-case N x s))
 
 -- Marks stay, and so do their pasts.
 newer-has : {l k : List Mark} → Newer l k → (a : MarkId) → T (has a (ids l)) → T (has a (ids k))
@@ -91,9 +91,9 @@ newer-precedes (one-newer {k} m n) s a b t = precedes-old m k a b (not-new m k s
 -- AFTERWARDS
 
 pub from-later : (N : ℕ) {st later : State} → FromCalls N st → Later N st later → FromCalls N later
-from-later N c as-it-is = c
-from-later N c (then-marked p b out) = marked (from-later N c p) b out
-from-later N c (then-received p s) = received (from-later N c p) s
+from-later N c (begun u) = c
+from-later N c (marked p b out) = marked (from-later N c p) b out
+from-later N c (received p s) = received (from-later N c p) s
 
 pub silent-leaves-later : (N : ℕ) → 1 ≤ N → {st : State} → FromCalls N st → SilentLeavesLater N st
 silent-leaves-later N some-desk {st} from d m f later p u =

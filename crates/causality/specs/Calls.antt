@@ -278,14 +278,16 @@ toFirstBytes N s out = overIf (toFirstSize N s (length out)) (frameOfMark (withP
 
 -- WHERE A DESK COMES FROM
 
--- "A desk comes only from New and these calls", whatever bytes it was lent. The queries and the conversions give the desk that they took.
-pub data FromCalls (N : ℕ) : State → Type 0 where
-  created : (d : ℕ) → FromCalls N (new N d .state)
-  marked : {st : State} → FromCalls N st → (b : MarkBox) (out : List ℕ) → FromCalls N (mark N st b out .state)
-  received : {st : State} → FromCalls N st → (s : List ℕ) → FromCalls N (receive N st s .state)
+-- What calls make of the desks `first`, whatever bytes they are lent. The queries and the conversions give the desk that they took.
+pub data ByCalls (N : ℕ) {A : Type 0} (first : A → State) : State → Type 0 where
+  begun : (a : A) → ByCalls N first (first a)
+  marked : {st : State} → ByCalls N first st → (b : MarkBox) (out : List ℕ) → ByCalls N first (mark N st b out .state)
+  received : {st : State} → ByCalls N first st → (s : List ℕ) → ByCalls N first (receive N st s .state)
 
--- What further calls make of a desk, whatever bytes they are lent.
-pub data Later (N : ℕ) (st : State) : State → Type 0 where
-  as-it-is : Later N st st
-  then-marked : {x : State} → Later N st x → (b : MarkBox) (out : List ℕ) → Later N st (mark N x b out .state)
-  then-received : {x : State} → Later N st x → (s : List ℕ) → Later N st (receive N x s .state)
+-- "A desk comes only from New and these calls".
+abbrev pub FromCalls : ℕ → State → Type 0
+FromCalls N = ByCalls N (λ d. new N d .state)
+
+-- What further calls make of a desk.
+abbrev pub Later : ℕ → State → State → Type 0
+Later N st = ByCalls N (λ (u : Unit {0}). st)

@@ -1,8 +1,7 @@
 -- The desk and the plain machine, call by call: release, Receive and Mark do what the machine does. Assumes nothing.
 use Prim.Native.Nat.{_*_, _+_, _-_, _≤_, suc, zero, ℕ}
 use lib.Dec.{T, T-not, eqb, leb, ltb, not-T}
-use lib.ListN.{drop, length, length-map, take}
-use lib.Seq.{take-at}
+use lib.ListN.{length, length-map}
 use mathlib.Core.Bool.{Bool, _||_, cond, false, not, true}
 use mathlib.Core.List.{List, [], _++_, _∷_, map}
 use mathlib.Core.Logic.{inl, inr}
@@ -18,7 +17,7 @@ use Rattle.causality.specs.Answers.{Executed, Known, Numbered, Reception, Reply
 use Rattle.causality.specs.Calls.{Received, Release, arrive, execute, executing, frameOfMark, full, mark, markAnswer, newMark, receiveMark, refuse, release, sameFields, stateIf, unmade}
 use Rattle.causality.specs.Marks.{All, all, any, find, has, insert, keep, lower, lowest, rising, same, tally, waitingPlaces, without}
 use Rattle.causality.specs.State.{Mark, State, falseStamp, heads, ids, isHead, markId, precedes, ready, reckoned, sameCount, withPast}
-use Rattle.causality.proofs.Fit.{Fit, fit-frame-length, fit-size, markSize}
+use Rattle.causality.proofs.Fit.{Fit, fit-size, markSize}
 use Rattle.causality.proofs.Kept.{Kept, new-fit}
 use Rattle.causality.proofs.Lists.{Picked, absent-all, all-append, all-map, any-cong, find-all, find-has, has-append, ids-append, isSome, lowest-picked, nor-fst, nor-snd, without-all}
 use Rattle.causality.proofs.Logic.{or-cases, same-refl, same→eq}
@@ -346,7 +345,3 @@ module _ (past : MarkId → List MarkId) where
   pub new-made : (d : State) (box : MarkBox) → past ((newMark d box) .id) ≡ ids (d .executed) → newMade (d .own) (listsOf d) box ≡ madeOf (newMark d box)
   unfolding newMade newMark madeOf
   new-made d box e = let t = made-ids (d .executed) in let p = t ∙ sym e in λ i. record { id = record { desk = d .own; number = suc (tally (d .own) (t i)) }; extent = box; past = p i }
-
--- What Mark leaves in the lent bytes begins with the new mark's frame.
-pub mark-front : (N : ℕ) (m : Mark) (lent : List ℕ) → take (markSize N m) (frameOfMark m ++ drop (length (frameOfMark m)) lent) ≡ frameOfMark m
-mark-front N m lent = take-at (frameOfMark m) (drop (length (frameOfMark m)) lent) (markSize N m) (fit-frame-length N m)

@@ -61,32 +61,25 @@ apart = hands 1 2 1 ∷ hands 1 3 2 ∷ hands 1 3 1 ∷ marks 2 ∷ hands 2 3 1 
 abbrev absent : List Step
 absent = hands 1 3 1 ∷ marks 2 ∷ hands 2 3 1 ∷ marks 3 ∷ []
 
-computed : T (has21 point) × T (every3 point)
-    × T (not (named3 point) && not (named3 (marks 1 ∷ point)))
-    × T (named3 further && not (named3 (marks 1 ∷ further)))
-    × T (has21 apart && (before21 apart (id 3 1) && named3 apart))
-    × T (not (has21 absent) && (every3 absent && named3 absent))
-unfolding isDesk isNumber boxRule at2 at4 bytes2 bytes4 pastIn fieldsOf headOf frameOf lengthBad versionBad countBad partBad fieldsBad entryBad entriesBad outputShort readFields readEntries writeSize same isHead heads previous ready missingEntries lacksPrevious missing reckoning falseEntries falseStamp new fieldsOfMark frameOfMark sizeOfMark markIn full newMark markAnswer mark refuse executing arrive unmade sameFields receiveMark receive leaveOut listsFull pastListed isLast frameSize newMade making handOver
-computed = (tt, tt, tt, tt, tt, tt)
+pub record Shown : Type 0 where
+  -- At that point 2.1 follows all of desk 3, and the stamps of desk 1 leave it out ..
+  pub listed : T (has21 point)
+  pub every : T (every3 point)
+  pub fades : T (not (named3 point) && not (named3 (marks 1 ∷ point)))
+  -- .. until 3.2 comes; then they do again.
+  pub until-needed : T (named3 further && not (named3 (marks 1 ∷ further)))
+  -- It is not enough that 2.1 follows some mark of desk 3, nor that it was made.
+  pub every-needed : T (has21 apart && (before21 apart (id 3 1) && named3 apart))
+  pub executed-needed : T (not (has21 absent) && (every3 absent && named3 absent))
 
--- At that point 2.1 follows all of desk 3, and the stamps of desk 1 leave it out ..
+pub shown : Shown
+unfolding isDesk isNumber boxRule at2 at4 bytes2 bytes4 pastIn fieldsOf headOf frameOf lengthBad versionBad countBad partBad fieldsBad entryBad entriesBad outputShort readFields readEntries writeSize same isHead heads previous ready missingEntries lacksPrevious missing reckoning falseEntries falseStamp new fieldsOfMark frameOfMark sizeOfMark markIn full newMark markAnswer mark refuse executing arrive unmade sameFields receiveMark receive leaveOut listsFull pastListed isLast frameSize newMade making handOver
+shown = record { listed = tt; every = tt; fades = tt; until-needed = tt; every-needed = tt; executed-needed = tt }
+
+-- That point is one of those of which the claim speaks.
 pub followed : FollowedAt point 1 3 (id 2 1)
 followed = record {
-  listed = computed .0;
+  listed = shown .listed;
   other = λ q. omega arith;
-  every = λ a t q. subst (λ (b : Bool). T (not b || before21 point a)) (eq-eqb (a .desk) 3 q) (all-at (λ a. not (eqb (a .desk) 3) || before21 point a) (listedAt point 1) (computed .1) a t);
+  every = λ a t q. subst (λ (b : Bool). T (not b || before21 point a)) (eq-eqb (a .desk) 3 q) (all-at (λ a. not (eqb (a .desk) 3) || before21 point a) (listedAt point 1) (shown .every) a t);
 }
-
-pub fades : T (not (named3 point) && not (named3 (marks 1 ∷ point)))
-fades = computed .2
-
--- .. until 3.2 comes; then they do again.
-pub until-needed : T (named3 further && not (named3 (marks 1 ∷ further)))
-until-needed = computed .3
-
--- It is not enough that 2.1 follows some mark of desk 3, nor that it was made.
-pub every-needed : T (has21 apart && (before21 apart (id 3 1) && named3 apart))
-every-needed = computed .4
-
-pub executed-needed : T (not (has21 absent) && (every3 absent && named3 absent))
-executed-needed = computed .5

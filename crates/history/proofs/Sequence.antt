@@ -13,13 +13,13 @@ use Rattle.causality.specs.Calls.{frameOfMark, mark, newMark, receive, receiveM
 use Rattle.causality.specs.Marks.{All, find, has, same, tally}
 use Rattle.causality.specs.State.{Mark, State, ids, markId, withPast}
 use Rattle.causality.proofs.Conversions.{first-front, first-read, second-front, second-gives, second-read}
-use Rattle.causality.proofs.Fit.{Fit, fit-back, fit-read}
+use Rattle.causality.proofs.Fit.{Fit, fit-back, fit-front, fit-read}
 use Rattle.causality.proofs.Kept.{kept}
 use Rattle.causality.proofs.Lists.{Picked, all-ids, all-map, find-all, has-self, keys}
 use Rattle.causality.proofs.Logic.{T→eq, nT→eq, or-inr, same-refl, same→eq}
 use Rattle.history.specs.Plain.{History, MadeMark, Unmade, handOver, handOverAt, listsAt, madeId, madeIds, making, newMade, ofMark, ofReceive, pastOf, plain, plainStep, recorded}
 use Rattle.history.specs.Run.{Run, Step, Written, atDesk, converted, fed, frameAt, handing, marking, run, runStep, toFirst, toSecond, withoutMissing, written, writtenId}
-use Rattle.history.proofs.Calls.{MarkCase, declined, granted, made-ids, mark-cases, mark-front}
+use Rattle.history.proofs.Calls.{MarkCase, declined, granted, made-ids, mark-cases}
 use Rattle.history.proofs.MarkRun.{MarkRun, convert, frame-map, heldAt, markStateAt, markStep, picked, runMarks}
 use Rattle.history.proofs.Simulation.{Inv, Recorded, Registered, Within, differs, first-ok, handing-ok, held-id, marking-ok, new-id, newAt, second-ok, start}
 
@@ -224,7 +224,7 @@ module _ (N : ℕ) (some-desk : 1 ≤ N) where
       go (declined c e₁ e₂) = rw e₁
       go (granted n e₁ e₂ fit en) =
           let own = inv .own d (T→eq (isDesk N d) td) in
-          let front = mark-front N (newMark x b) lent in
+          let front = fit-front N (newMark x b) _ in
           rw (e₁, en) (λ i. record { id = record { desk = sym own i; number = suc (tally (x .own) (ids (x .executed))) }; bytes = front i } ∷ map framed (w .frames))
   one-step s at (handing d i k) td = go (frameAt markId i k (w .frames)) refl
     where

@@ -8,11 +8,11 @@ use mathlib.Core.Path.{_∙_, _≡_, ap, refl, subst, sym}
 use Rattle.frame.specs.declared.MarkBox.{MarkBox}
 use Rattle.frame.specs.Frame.{entriesOf, readEntries}
 use Rattle.frame.specs.Mark.{MarkId, desks, isDesk}
-use Rattle.causality.specs.Calls.{FromCalls, Later, as-it-is, created, mark, newMark, receive, then-marked, then-received}
+use Rattle.causality.specs.Calls.{FromCalls, Later, begun, mark, marked, newMark, receive, received}
 use Rattle.causality.specs.Marks.{All, has}
 use Rattle.causality.specs.Silent.{FollowedHere}
 use Rattle.causality.specs.State.{State, ids, precedes}
-use Rattle.causality.proofs.Fit.{fit-entries}
+use Rattle.causality.proofs.Fit.{fit-entries, fit-front}
 use Rattle.causality.proofs.Kept.{Kept, kept}
 use Rattle.causality.proofs.Lists.{all-map}
 use Rattle.causality.proofs.Past.{precedes-past}
@@ -23,7 +23,7 @@ use Rattle.history.specs.Evidence.{happenedBefore}
 use Rattle.history.specs.Plain.{DeskLists, look, madeIds}
 use Rattle.history.specs.Run.{Run, Step, Written, atDesk, frameAt, handing, marking, run, runStep, stateAt, toFirst, toSecond, written, writtenId}
 use Rattle.history.specs.Silent.{FollowedAlike, FollowedAt, Silent, SilentDeskLeaves, listedAt}
-use Rattle.history.proofs.Calls.{MarkCase, declined, granted, made-ids, mark-cases, mark-front}
+use Rattle.history.proofs.Calls.{MarkCase, declined, granted, made-ids, mark-cases}
 use Rattle.history.proofs.MarkRun.{fresh, look-new, markStateAt, runMarks}
 use Rattle.history.proofs.Sequence.{AtDesks, inv-of, pastAt, plainOf, same-run}
 use Rattle.history.proofs.Theorem.{some-desk}
@@ -67,12 +67,12 @@ module _ (N x : ℕ) (from : State) where
   put-later r d y f p = look-new (λ e z. e ≡ x → Later N from z) (fresh N) (r .states) d y (λ q. f (subst (λ (n : ℕ). Later N from (stateAt N r n)) (sym q) p)) x (λ q. p) refl
 
   step-later : (r : Run) (t : Step) → Later N from (stateAt N r x) → Later N from (stateAt N (runStep N r t) x)
-  step-later r (marking d b lent) p = put-later r d ((mark N (stateAt N r d) b lent) .state) (λ q. then-marked q b lent) p
+  step-later r (marking d b lent) p = put-later r d ((mark N (stateAt N r d) b lent) .state) (λ q. marked q b lent) p
   step-later r (handing d i k) p = go (frameAt writtenId i k (r .frames)) refl
     where
       go : (o : Option Written) → frameAt writtenId i k (r .frames) ≡ o → Later N from (stateAt N (runStep N r (handing d i k)) x)
       go none e = rw (e, runStep) p
-      go (some f) e = rw (e, runStep) (put-later r d ((receive N (stateAt N r d) (f .bytes)) .state) (λ q. then-received q (f .bytes)) p)
+      go (some f) e = rw (e, runStep) (put-later r d ((receive N (stateAt N r d) (f .bytes)) .state) (λ q. received q (f .bytes)) p)
   step-later r (toSecond d i k lent) p = go (frameAt writtenId i k (r .frames)) refl
     where
       go : (o : Option Written) → frameAt writtenId i k (r .frames) ≡ o → Later N from (stateAt N (runStep N r (toSecond d i k lent)) x)
@@ -85,11 +85,11 @@ module _ (N x : ℕ) (from : State) where
       go (some f) e = rw (e, runStep) p
 
 run-later : (N x : ℕ) (since earlier : List Step) → Later N (stateAt N (run N earlier) x) (stateAt N (run N (since ++ earlier)) x)
-run-later N x [] earlier = as-it-is
+run-later N x [] earlier = begun tt
 run-later N x (t ∷ since) earlier = step-later N x (stateAt N (run N earlier) x) (run N (since ++ earlier)) t (run-later N x since earlier)
 
 run-from : (N x : ℕ) (s : List Step) → FromCalls N (stateAt N (run N s) x)
-run-from N x [] = created x
+run-from N x [] = begun x
 run-from N x (t ∷ s) = from-later N (run-from N x s) (run-later N x (t ∷ []) s)
 
 -- What Mark writes has the new mark's stamp.
@@ -101,7 +101,7 @@ mark-writes N sd st b lent x k = go (mark-cases (local (st .executed)) (λ m. Un
         → let o = mark N st b lent in All (λ f. entriesIn N f ≡ newMark st b .stamp) (written x (o .answer) (o .bytes) [])
     go (declined c e₁ e₂) = rw e₁ tt
     go (granted n e₁ e₂ fit en) =
-        rw (e₁, en) (ap (λ (f : List ℕ). entriesOf (readEntries N f)) (mark-front N (newMark st b) lent) ∙ fit-entries N (newMark st b) fit, tt)
+        rw (e₁, en) (ap (λ (f : List ℕ). entriesOf (readEntries N f)) (fit-front N (newMark st b) _) ∙ fit-entries N (newMark st b) fit, tt)
 
 -- THE CLAIM
 

@@ -15,7 +15,7 @@ use Rattle.frame.specs.Answer.{Answer, gives, refused}
 use Rattle.frame.specs.Frame.{overIf, pastBad}
 use Rattle.frame.specs.Mark.{MarkId, isDesk}
 use Rattle.causality.specs.Answers.{Numbered, Reception}
-use Rattle.causality.specs.Calls.{Created, Marked, created, empty, execute, frameOfMark, mark, new, newMark, receiveMark, sameFields, toFirstMark, toSecondMark, unmade}
+use Rattle.causality.specs.Calls.{Created, Marked, begun, empty, execute, frameOfMark, mark, new, newMark, receiveMark, sameFields, toFirstMark, toSecondMark, unmade}
 use Rattle.causality.specs.Marks.{All, any, find, has, keep, rising, same, tally}
 use Rattle.causality.specs.State.{Mark, State, heads, ids, isHead, markId, sameCount, withPast}
 use Rattle.causality.proofs.Conversions.{second-gives}
@@ -120,7 +120,7 @@ module _ (N : ℕ) (some-desk : 1 ≤ N) (past : MarkId → List MarkId) (regist
   pub start : Inv (startMarks N) (plain [])
   start = record {
     own = λ d t. fresh-is d .own t;
-    kept = λ d. kept N some-desk (created d);
+    kept = λ d. kept N some-desk (begun d);
     ok = λ d. fresh-is d .ok (startMarks N);
     made = tt;
     frames = tt;

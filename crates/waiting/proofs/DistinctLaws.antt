@@ -9,7 +9,7 @@ use Rattle.frame.specs.declared.MarkBox.{MarkBox}
 use Rattle.frame.specs.Answer.{Answer, gives, refused}
 use Rattle.frame.specs.Mark.{MarkId, isDesk}
 use Rattle.causality.specs.Answers.{Numbered}
-use Rattle.causality.specs.Calls.{Created, FromCalls, Received, created, empty, execute, executing, mark, markAnswer, markIn, marked, new, newMark, receive, received, release, stateIf}
+use Rattle.causality.specs.Calls.{Created, FromCalls, Received, begun, empty, execute, executing, mark, markAnswer, markIn, marked, new, newMark, receive, received, release, stateIf}
 use Rattle.causality.specs.Marks.{find, has, lowest, same, without}
 use Rattle.causality.specs.State.{Mark, State, falseStamp, ids, markId, ready, reckoned}
 use Rattle.causality.proofs.Lists.{find-has, has-append, ids-append, isSome}
@@ -73,7 +73,7 @@ module _ (N : ℕ) where
 
   pub waiting-distinct : {st : State} → FromCalls N st → Distinct (st .waiting)
   unfolding new
-  waiting-distinct (created d) = go (isDesk N d)
+  waiting-distinct (begun d) = go (isDesk N d)
     where
       go : (b : Bool) → Distinct ((elim b as (λ x. Created) [ true ↦ record { state = empty d; answer = gives d } | false ↦ record { state = empty 1; answer = refused 1 } ]) .state .waiting)
       go true = tt
