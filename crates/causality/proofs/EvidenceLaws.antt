@@ -210,7 +210,7 @@ relate-case st a b = go (isExecuted st a && isExecuted st b) refl (same a b) ref
 
 -- COUNTS
 
-tally-keep : (d : ℕ) (p : MarkId → Bool) (is : List MarkId) → ((i : MarkId) → T (has i is) → d ≡ i .desk → T (p i)) → tally d (keep p is) ≡ tally d is
+pub tally-keep : (d : ℕ) (p : MarkId → Bool) (is : List MarkId) → ((i : MarkId) → T (has i is) → d ≡ i .desk → T (p i)) → tally d (keep p is) ≡ tally d is
 tally-keep d p [] f = refl
 tally-keep d p (i ∷ is) f =
     go (eqb d (i .desk)) (p i) refl (λ t. f i (has-self i is) (eqb→eq d (i .desk) t)) (tally-keep d p is (λ j t. f j (or-inr (same j i) (has j is) t)))

@@ -23,4 +23,5 @@ pub mod Tail
 pub mod Silent
 pub mod RowCounts
 pub mod EvidenceLaws
+pub mod Tables
 pub mod Laws
