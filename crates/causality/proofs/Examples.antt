@@ -1,7 +1,7 @@
 -- The examples, computed by the calls on bytes: one check of each list. Assumes nothing.
 use Prim.Native.Nat.{_-_, ℕ}
 use lib.Dec.{T, eqb}
-use lib.ListN.{replicate, take}
+use lib.ListN.{getD, replicate, take}
 use mathlib.Core.Bool.{Bool, _&&_, false, true}
 use mathlib.Core.List.{List, [], _++_, _∷_, reverse}
 use Rattle.frame.specs.declared.Fields.{Fields}
@@ -14,9 +14,10 @@ use Rattle.frame.specs.Mark.{MarkId, boxRule, desks, isDesk, isNumber}
 use Rattle.causality.specs.Answers.{After, Before, Concurrent, Evidence, Executed, Known, Numbered, Relation, Reply, Same, Waiting}
 use Rattle.causality.specs.Calls.{apartOf, arrive, executing, fieldsOfMark, firstApart, frameAgainBytes, frameAgainSize, frameOfMark, full, mark, markAnswer, markIn, new, newMark, receive, receiveMark, refuse, relate, sameFields, sizeOfMark, toFirstBytes, toFirstMark, toFirstSize, toSecondBytes, toSecondMark, toSecondSize, unmade}
 use Rattle.causality.specs.Evidence.{chain, evidence, evidenceChain, evidencePairs, inPast}
-use Rattle.causality.specs.Examples.{chains, clicks, counted, fading, pinned, short, starred, tails}
+use Rattle.causality.specs.Examples.{chains, clicks, counted, fading, pinned, short, starred, tabled, tails}
 use Rattle.causality.specs.Marks.{same}
 use Rattle.causality.specs.State.{Mark, State, concurrent, falseEntries, falseStamp, heads, ids, isHead, lacksPrevious, missing, missingEntries, previous, ready, reckoning}
+use Rattle.causality.specs.Tables.{pairTables, pairTablesCounts, pairsApart, pairsBefore, tableRows, tables}
 
 abbrev box : MarkBox
 box = record { start = 1_000; end = 1_500; low = 100; high = 400 }
@@ -277,6 +278,18 @@ spoken = receives (marks followed) (f32 ∷ [])
 abbrev foundFading : List (List ℕ)
 foundFading = entries (writes followed) ∷ entries (writes spoken) ∷ entries (writes (marks spoken)) ∷ []
 
+-- A run of so many counts, each of them 7, after the call.
+abbrev tabledIn : ℕ → List ℕ
+tabledIn lent = pairTablesCounts desks desk3 (replicate lent 7)
+
+abbrev foundTabled : List (List ℕ)
+foundTabled =
+    tableRows 4 4 (pairsApart (desk3 .executed)) ∷ tableRows 4 4 (pairsBefore (desk3 .executed))
+    ∷ (value (pairTables desks 511) ∷ value (pairTables desks 512) ∷ value (pairTables desks 600) ∷ [])
+    ∷ (getD (tabledIn 600) 18 0 ∷ getD (tabledIn 600) 291 0 ∷ getD (tabledIn 600) 511 0 ∷ getD (tabledIn 600) 512 0 ∷ getD (tabledIn 600) 599 0 ∷ [])
+    ∷ (getD (tabledIn 511) 0 0 ∷ getD (tabledIn 511) 510 0 ∷ [])
+    ∷ []
+
 abbrev sameNumbers : List ℕ → List ℕ → Bool
 sameNumbers [] [] = true
 sameNumbers [] (y ∷ ys) = false
@@ -291,6 +304,6 @@ equal (x ∷ xs) (y ∷ ys) = sameNumbers x y && equal xs ys
 
 pub examples : T (equal found starred) × T (equal foundPinned pinned) × T (equal foundShort short) × T (equal foundClicks clicks)
     × T (equal foundCounted counted) × T (equal foundConverted converted) × T (equal foundTails tails) × T (equal foundChains chains)
-    × T (equal foundFading fading)
-unfolding isDesk isNumber boxRule at2 at4 bytes2 bytes4 pastIn fieldsOf headOf frameOf lengthBad versionBad countBad partBad fieldsBad entryBad entriesBad outputShort readFields readEntries writeSize same isHead heads previous ready missingEntries lacksPrevious missing reckoning falseEntries falseStamp concurrent new fieldsOfMark frameOfMark sizeOfMark markIn full newMark markAnswer mark refuse executing arrive unmade sameFields receiveMark receive relate apartOf firstApart frameAgainSize frameAgainBytes toSecondMark toSecondSize toSecondBytes toFirstMark toFirstSize toFirstBytes chain inPast evidence evidenceChain evidencePairs
-examples = (tt, tt, tt, tt, tt, tt, tt, tt, tt)
+    × T (equal foundFading fading) × T (equal foundTabled tabled)
+unfolding isDesk isNumber boxRule at2 at4 bytes2 bytes4 pastIn fieldsOf headOf frameOf lengthBad versionBad countBad partBad fieldsBad entryBad entriesBad outputShort readFields readEntries writeSize same isHead heads previous ready missingEntries lacksPrevious missing reckoning falseEntries falseStamp concurrent new fieldsOfMark frameOfMark sizeOfMark markIn full newMark markAnswer mark refuse executing arrive unmade sameFields receiveMark receive relate apartOf firstApart frameAgainSize frameAgainBytes toSecondMark toSecondSize toSecondBytes toFirstMark toFirstSize toFirstBytes chain inPast evidence evidenceChain evidencePairs pairsApart pairsBefore tables pairTables pairTablesCounts
+examples = (tt, tt, tt, tt, tt, tt, tt, tt, tt, tt)

@@ -24,4 +24,5 @@ pub mod Silent
 pub mod RowCounts
 pub mod EvidenceLaws
 pub mod Tables
+pub mod TableRows
 pub mod Laws

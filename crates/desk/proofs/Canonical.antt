@@ -22,6 +22,7 @@ use Rattle.causality.proofs.Logic.{split}
 use Rattle.causality.proofs.Refusals.{mark-refused, receive-refused}
 use Rattle.causality.proofs.RowLaws.{entriesOfRow, row-of-entries}
 use Rattle.causality.proofs.Rows.{rowOf}
+use Rattle.causality.proofs.TableRows.{by-rows}
 use Rattle.rows.specs.View.{Carried, Slots, ZeroFrom, boxAt, carriedAt, markAt, pastFrom, rowAt, view, width}
 use Rattle.rows.proofs.Arrays.{view-length}
 use Rattle.executed.specs.Rows.{Chained, Rows}
@@ -34,18 +35,6 @@ zero-ext n k m xs ys zx zy e below = ext-getD 0 xs ys (zx .long ∙ sym (zy .lon
   | inl t ↦ below q (ltb→lt q k t)
   | inr t ↦ let h = nltb→le q k t in zx .zeros q h ∙ sym (zy .zeros q (omega arith))
 ])
-
--- Row behind row, n numbers each: the numbers of the first rows are all the numbers there.
-by-rows : (n count : ℕ) (xs ys : List ℕ) → ((p j : ℕ) → p < count → j < n → getD xs (p * n + j) 0 ≡ getD ys (p * n + j) 0)
-    → (q : ℕ) → q < count * n → getD xs q 0 ≡ getD ys q 0
-by-rows n zero xs ys f q h = let z : ⊥ = omega (arith, zero-mul n) in absurd z
-by-rows n (suc k) xs ys f q h = elim (split (ltb q (k * n))) [
-  | inl t ↦ by-rows n k xs ys (λ p j a. f p j (omega arith)) q (ltb→lt q (k * n) t)
-  | inr t ↦
-      let l = nltb→le q (k * n) t in
-      let e : k * n + (q - k * n) ≡ q = omega arith in
-      subst (λ (x : ℕ). getD xs x 0 ≡ getD ys x 0) e (f k (q - k * n) (omega arith) (omega (arith, suc-mul k n)))
-]
 
 -- The values of a function below a count, that of the greatest number first.
 abbrev down : {A : Type 0} → (ℕ → A) → ℕ → List A
