@@ -184,6 +184,17 @@ module _ (m : Mark) (older : List Mark) (s : Sound (m ∷ older)) where
       first : tally j (keep (concurrent (m ∷ older) (m .id)) (m .id ∷ ids older)) ≡ apartFrom j
       first = rw not-itself (ap (tally j) (keep-cong (concurrent (m ∷ older) (m .id)) (λ y. not (before y)) (ids older) apart-first) ∙ apart-of j)
 
+-- What stands alike to each other is counted alike.
+total-cong : (f g : MarkId → ℕ) (i : ℕ) (ys : List MarkId) → ((y : MarkId) → T (has y ys) → f y ≡ g y) → total f (ofDesk i ys) ≡ total g (ofDesk i ys)
+total-cong f g i [] h = refl
+total-cong f g i (y ∷ ys) h =
+    let a = h y (has-self y ys) in
+    let b = total-cong f g i ys (λ z t. h z (or-inr (same z y) (has z ys) t)) in
+    total-of f i y ys ∙ rw (a, b) (sym (total-of g i y ys))
+
+pub pairs-cong : (R S : MarkId → MarkId → Bool) (xs : List MarkId) → ((y x : MarkId) → T (has y xs) → T (has x xs) → R y x ≡ S y x) → (i j : ℕ) → pairsOf R xs i j ≡ pairsOf S xs i j
+pairs-cong R S xs f i j = total-cong (λ y. tally j (keep (R y) xs)) (λ y. tally j (keep (S y) xs)) i xs (λ y t. ap (tally j) (keep-cong (R y) (S y) xs (λ x u. f y x t u)))
+
 -- At most each mark of i with each of j.
 total-most : (f : MarkId → ℕ) (b : ℕ) → ((y : MarkId) → f y ≤ b) → (i : ℕ) (ys : List MarkId) → total f (ofDesk i ys) ≤ tally i ys * b
 total-most f b h i [] = omega arith

@@ -37,7 +37,7 @@ module _ (N : ℕ) (s : List Step) (at : AtDesks N s) (x : ℕ) (tx : T (isDesk 
   sd : 1 ≤ N
   sd = some-desk N x tx
 
-  listed-executed : listedAt s x ≡ ids (st .executed)
+  pub listed-executed : listedAt s x ≡ ids (st .executed)
   listed-executed = rw (same-run N sd s at) (ap (λ (l : DeskLists). madeIds (l .listed)) (inv-of N sd s at .lists x) ∙ made-ids (pastAt N sd s) ((markStateAt N (runMarks N s) x) .executed))
 
   in-state : (a : MarkId) → T (has a (listedAt s x)) → T (has a (ids (st .executed)))
@@ -46,7 +46,7 @@ module _ (N : ℕ) (s : List Step) (at : AtDesks N s) (x : ℕ) (tx : T (isDesk 
   in-list : (a : MarkId) → T (has a (ids (st .executed))) → T (has a (listedAt s x))
   in-list a t = rw listed-executed t
 
-  before-precedes : (a b : MarkId) → T (has b (ids (st .executed))) → precedes (st .executed) a b ≡ happenedBefore (plainOf s .made) a b
+  pub before-precedes : (a b : MarkId) → T (has b (ids (st .executed))) → precedes (st .executed) a b ≡ happenedBefore (plainOf s .made) a b
   before-precedes = rw (same-run N sd s at) (precedes-past (pastAt N sd s) ((markStateAt N (runMarks N s) x) .executed) (inv-of N sd s at .ok x .hist))
 
   alike : (d : ℕ) (m : MarkId) → FollowedAt s x d m ↔ FollowedHere st d m
