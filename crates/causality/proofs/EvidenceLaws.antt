@@ -1,6 +1,6 @@
 -- Order 5: the evidence behind a verdict is Relate's verdict, with a chain of entries or with counts below the marks' own numbers. Assumes nothing.
 use Prim.Native.Nat.{_<_, _≤_, suc, ℕ}
-use lib.Dec.{T, T-not, eqb, eqb→eq, leb, leb→le, ltb, ltb→lt, nleb→lt, not-T}
+use lib.Dec.{T, T-not, eqb, eqb→eq, leb, leb→le, le→leb, ltb, ltb→lt, nleb→lt, not-T}
 use lib.ListN.{length, length-reverse}
 use mathlib.Core.Bool.{Bool, _&&_, _||_, cond, false, not, true}
 use mathlib.Core.List.{List, [], _∷_, reverseAux}
@@ -16,7 +16,7 @@ use Rattle.causality.specs.Evidence.{BesideRelate, ChainOf, Proves, Show
 use Rattle.causality.specs.Marks.{All, any, find, has, keep, same, tally}
 use Rattle.causality.specs.State.{Mark, State, ids, precedes}
 use Rattle.causality.proofs.Lists.{Among, Lowest, absent-all, all-map, any-find, any-of, has-keep, has-self, keep-has, lowest-least}
-use Rattle.causality.proofs.Logic.{T→eq, and-fst, and-snd, nT→eq, or-cases, or-inl, or-inr, same-refl, same→eq, split}
+use Rattle.causality.proofs.Logic.{T→eq, and-fst, and-snd, bool-ext, nT→eq, or-cases, or-inl, or-inr, same-refl, same→eq, split}
 use Rattle.causality.proofs.Past.{Counted, Standing, behind-all, counted, fresh-of, precedes-past, prefix-has, prefix-le}
 use Rattle.causality.proofs.Reach.{Sound, local, not-new, precedes-at, precedes-listed, precedes-old, sound-counted}
 use Rattle.causality.proofs.Reckoning.{Once, among-le, counted-once, keep-once}
@@ -235,21 +235,25 @@ keep-counted p (x ∷ xs) c f = go (p x) refl (keep-counted p xs (c .1) f)
     go true e ih = (c .0 ∙ ap suc (sym (tally-keep (x .desk) p xs (lower (rw e tt)))), ih)
     go false e ih = ih
 
--- "below the marks' own numbers".
-in-past-below : (l : List Mark) → Sound l → (a b : MarkId) → T (has a (ids l)) → T (not (precedes l a b)) → inPast l (a .desk) b < a .number
+-- Of a desk's marks, those up to the count precede.
+pub told-by-count : (l : List Mark) → Sound l → (i b : MarkId) → T (has i (ids l)) → precedes l i b ≡ leb (i .number) (inPast l (i .desk) b)
 unfolding inPast
-in-past-below l s a b t n = elim (split (leb (a .number) (tally (a .desk) (local l b)))) [
-  | inl q ↦
-      let k = prefix-has (local l b) (keep-counted p (ids l) c (past-first-run l s b)) a (prefix-le (ids l) c a t .0) (leb→le (a .number) (tally (a .desk) (local l b)) q) in
-      absurd (T-not (precedes l a b) n (keep-has p (ids l) a k .1))
-  | inr q ↦ nleb→lt (a .number) (tally (a .desk) (local l b)) q
-]
+told-by-count l s i b t = bool-ext (precedes l i b) (leb (i .number) (inPast l (i .desk) b))
+    (λ u. le→leb (i .number) (inPast l (i .desk) b) (prefix-le (keep p (ids l)) k i (has-keep p (ids l) i t u) .1))
+    (λ u. keep-has p (ids l) i (prefix-has (keep p (ids l)) k i (prefix-le (ids l) c i t .0) (leb→le (i .number) (inPast l (i .desk) b) u)) .1)
   where
     p : MarkId → Bool
     p i = precedes l i b
 
     c : Counted (ids l)
     c = sound-counted l s
+
+    k : Counted (keep p (ids l))
+    k = keep-counted p (ids l) c (past-first-run l s b)
+
+-- "below the marks' own numbers".
+in-past-below : (l : List Mark) → Sound l → (a b : MarkId) → T (has a (ids l)) → T (not (precedes l a b)) → inPast l (a .desk) b < a .number
+in-past-below l s a b t n = nleb→lt (a .number) (inPast l (a .desk) b) (rw (told-by-count l s a b t) at n)
 
 -- Of two concurrent marks both counts.
 pub counts-below : (st : State) → Sound (st .executed) → (a b : MarkId) → relate st a b ≡ gives Concurrent

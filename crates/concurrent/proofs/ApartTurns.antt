@@ -1,7 +1,7 @@
 -- Turns of the loops of Apart: a row of first followers is tested, and marks apart are listed. n: how many desks. Assumes nothing.
 use Prim.Native.Nat.{_+_, _-_, _<_, _≤_, suc, ℕ}
 use borrow.Author.Tests.{le-ltb, lt-ltb}
-use lib.Dec.{leb, ltb}
+use lib.Dec.{T, leb, ltb}
 use lib.ListN.{getD}
 use mathlib.Core.Bool.{Bool, _&&_, _||_, cond, false, not, or-false, or-true, true}
 use mathlib.Core.List.{List, _∷_}
@@ -9,7 +9,7 @@ use mathlib.Core.Path.{_∙_, _≡_, ap, refl, sym}
 use native.Mathlib.Numerals.{add-one, sub-one}
 use native.Mathlib.Omega.{arith}
 use Rattle.frame.specs.Mark.{MarkId}
-use Rattle.causality.specs.Marks.{keep, places, same}
+use Rattle.causality.specs.Marks.{has, keep, places, same}
 use Rattle.causality.specs.State.{concurrent, ids, precedes}
 use Rattle.causality.proofs.Apart.{someFollower}
 use Rattle.causality.proofs.Logic.{not-leb}
@@ -19,7 +19,6 @@ use Rattle.pairs.specs.declared.Listed.{Listed}
 use Rattle.pairs.proofs.Longer.{longer, longer-names, longer-spare}
 use Rattle.rows.specs.View.{Carried, nameAt, namesDown, rowFn, view}
 use Rattle.rows.proofs.Places.{has-at, ids-names}
-use Rattle.queries.specs.Steps.{PastTold}
 use Rattle.concurrent.specs.Steps.{Tells}
 
 -- THE TEST
@@ -56,7 +55,8 @@ module _ (n : ℕ) (ds ns ss : List ℕ) (count : ℕ) (first past : List ℕ) w
   pub record Both (p : ℕ) : Type 0 where
     pub inside : p < count
     pub follows : Tells n ds ns ss p count first
-    pub precede : (bs : ℕ → Carried) → Sound (view n count ds ns bs ss) → PastTold n ds ns bs ss count p past
+    pub precede : (bs : ℕ → Carried) → Sound (view n count ds ns bs ss) → (i : MarkId) → T (has i (ids (view n count ds ns bs ss)))
+        → precedes (view n count ds ns bs ss) i (nameAt ds ns p) ≡ leb (i .number) (rowFn past (i .desk))
 
   -- Of the first q marks those apart from that of which the rows tell are listed.
   pub record ApartTo (q : ℕ) (list : Listed) : Type 0 where

@@ -2,7 +2,7 @@
 use Prim.Native.Nat.{_*_, _+_, _-_, _<_, _≤_, min, suc, ℕ}
 use borrow.Author.Tests.{eqb-true, lt-leb, lt-ltb}
 use lib.Dec.{T, eqb, leb, leb→le, nleb→lt, not-T}
-use lib.ListN.{getD}
+use lib.ListN.{getD, replicate}
 use mathlib.Core.Bool.{Bool, cond, false, or-true, true}
 use mathlib.Core.List.{List, [], _∷_}
 use mathlib.Core.Logic.{inl, inr}
@@ -16,10 +16,12 @@ use Rattle.causality.proofs.Lists.{has-self}
 use Rattle.causality.proofs.Logic.{nT→eq, or-inr, split}
 use Rattle.causality.proofs.Past.{Counted, prefix-le}
 use Rattle.causality.proofs.Reach.{Sound, sound-counted}
-use Rattle.causality.proofs.RowLaws.{show, under-out, under-up}
+use Rattle.causality.proofs.RowLaws.{show, under, under-out, under-up}
 use Rattle.rows.specs.View.{Carried, Named, nameAt, namesDown, rowAt, rowFn, view}
 use Rattle.rows.proofs.Arrays.{follows-below, sound-below}
+use Rattle.rows.proofs.ByRows.{row-at}
 use Rattle.rows.proofs.Places.{has-more, ids-names}
+use Rattle.rows.proofs.Slots.{zeros}
 use Rattle.queries.proofs.Asking.{told-ended}
 use Rattle.queries.proofs.MadeBefore.{met, none-yet, own-less}
 use Rattle.queries.proofs.PastRow.{reached-counts}
@@ -137,3 +139,8 @@ module _ (n : ℕ) (ds ns : List ℕ) (bs : ℕ → Carried) (ss : List ℕ) whe
     unfolding inPast
     in-past-reached = let x = few in omega arith ∙ sym (tally-run d (reached n ds ns bs ss p row d) (λ i. precedes l i (nameAt ds ns p)) (ids l) c
         (λ i t e. reached-counts n ds ns bs ss count p h named s row er i (omega arith) (omega arith) ((prefix-le (ids l) c i t) .0) ∙ ap (λ (x : ℕ). leb (i .number) (reached n ds ns bs ss p row x)) e))
+
+    -- A row that is traced from it has that count.
+    pub in-past-traced : (past : List ℕ) → ((j : ℕ) → j < n → getD past j 0 ≡ under (view n p ds ns bs ss) (rowFn (replicate n 0)) (rowFn row) (suc j))
+        → rowFn past d ≡ inPast (view n count ds ns bs ss) d (nameAt ds ns p)
+    in-past-traced past ep = row-at n past (under (view n p ds ns bs ss) (rowFn (replicate n 0)) (rowFn row)) ep d lo hi ∙ (λ k. under (view n p ds ns bs ss) (λ d. zeros n (d - 1) k) (rowFn row) d) ∙ in-past-reached

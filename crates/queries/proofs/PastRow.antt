@@ -21,7 +21,6 @@ use Rattle.rows.proofs.ByRows.{row-at, under-cong}
 use Rattle.rows.proofs.Places.{has-at, named-has, not-before, precedes-there}
 use Rattle.rows.proofs.RowSteps.{named-at, named-desks, named-less}
 use Rattle.rows.proofs.Slots.{zeros}
-use Rattle.queries.specs.Steps.{PastTold}
 use Rattle.queries.proofs.Reaching.{no-row, reached}
 
 module _ (n : ℕ) (ds ns : List ℕ) (bs : ℕ → Carried) (ss : List ℕ) where
@@ -43,15 +42,6 @@ module _ (n : ℕ) (ds ns : List ℕ) (bs : ℕ → Carried) (ss : List ℕ) whe
       traced =
           under-cong n l (named-desks n p ds ns bs ss f) (λ d. 0) (λ d. 0) (rowFn row) r (λ d lo hi. refl) (λ d lo hi. er (d - 1) (omega arith) ∙ sym (row-of-entries n (rowAt n ss p) d lo hi)) (i .desk) lo hi
           ∙ sym (no-row (under l (λ d. 0) r (i .desk))) ∙ under-trace l (λ d. 0) r (i .desk) ∙ (λ k. trace l (λ d. no-row (r d) k) (i .desk))
-
-  pub past-row : (count p : ℕ) → p < count → Named n count ds → Sound (view n count ds ns bs ss) → (row past : List ℕ)
-      → ((j : ℕ) → j < n → getD row j 0 ≡ getD ss (p * n + j) 0)
-      → ((j : ℕ) → j < n → getD past j 0 ≡ under (view n p ds ns bs ss) (rowFn (replicate n 0)) (rowFn row) (suc j))
-      → PastTold n ds ns bs ss count p past
-  past-row count p h f s row past er ep i t =
-      let w = named-has n ds ns bs ss count f i t in
-      reached-counts count p h (named-less n count ds p f (omega arith)) s row er i (w .0) (w .1) ((prefix-le (ids (view n count ds ns bs ss)) (sound-counted (view n count ds ns bs ss) s) i t) .0)
-      ∙ ap (leb (i .number)) (sym (row-at n past (under (view n p ds ns bs ss) (rowFn (replicate n 0)) (rowFn row)) ep (i .desk) (w .0) (w .1) ∙ (λ k. under (view n p ds ns bs ss) (λ d. zeros n (d - 1) k) (rowFn row) (i .desk))))
 
   -- Entries lead from the row of the mark at q to the mark at an earlier place if that mark precedes it.
   pub led : (count p q : ℕ) → p < q → q < count → Named n q ds → Sound (view n count ds ns bs ss) → (row : List ℕ) → ((j : ℕ) → j < n → getD row j 0 ≡ getD ss (q * n + j) 0) → (r : Bool)

@@ -12,7 +12,7 @@ use Rattle.causality.specs.State.{ids, precedes}
 use Rattle.causality.proofs.Reach.{Sound}
 use Rattle.causality.proofs.RowLaws.{under}
 use Rattle.executed.specs.Rows.{Lent}
-use Rattle.rows.specs.View.{Carried, Named, nameAt, namesDown, rowAt, rowFn, view, width}
+use Rattle.rows.specs.View.{Carried, nameAt, namesDown, rowAt, rowFn, view, width}
 use Rattle.queries.specs.declared.first_apart.Searched.{Searched}
 use Rattle.queries.specs.Halving.{halving, mostAsks}
 use Rattle.queries.specs.Lent.{OfMarks}
@@ -28,15 +28,10 @@ abbrev pub PrecedesAt : List ℕ → List ℕ → List ℕ → ℕ → ℕ → B
 PrecedesAt ds ns ss p q r = (count : ℕ) (bs : ℕ → Carried) → q < count → Sound (view width count ds ns bs ss)
     → r ≡ precedes (view width count ds ns bs ss) (nameAt ds ns p) (nameAt ds ns q)
 
--- A row tells of each of the first `count` marks whether it precedes that at place p. n: how many desks.
-abbrev pub PastTold : ℕ → List ℕ → List ℕ → (ℕ → Carried) → List ℕ → ℕ → ℕ → List ℕ → Type 0
-PastTold n ds ns bs ss count p row = (i : MarkId) → T (has i (ids (view n count ds ns bs ss)))
-    → precedes (view n count ds ns bs ss) i (nameAt ds ns p) ≡ leb (i .number) (rowFn row (i .desk))
-
--- The row of the past of the mark at place p, however many marks there are.
+-- A row has for each desk how many of its marks precede that at place p, however many marks there are.
 abbrev pub PastOf : List ℕ → List ℕ → List ℕ → ℕ → List ℕ → Type 0
-PastOf ds ns ss p row = (count : ℕ) (bs : ℕ → Carried) → p < count → Named width count ds → Sound (view width count ds ns bs ss)
-    → PastTold width ds ns bs ss count p row
+PastOf ds ns ss p row = (count : ℕ) → p < count
+    → OfMarks width count ds ns ss (λ l. (d : ℕ) → 1 ≤ d → d ≤ width → rowFn row d ≡ inPast l d (nameAt ds ns p))
 
 -- So many marks of desk d are among the first p.
 abbrev pub MadeBefore : List ℕ → List ℕ → List ℕ → List ℕ → ℕ → ℕ → ℕ → Type 0

@@ -1,13 +1,16 @@
 -- `apart` meets its contract. Invariant: of the marks passed those apart are listed.
 use mathlib.Core.Logic.{⊎-elim}
-use mathlib.Core.Path.{_∙_, refl, sym}
+use mathlib.Core.Path.{_∙_, ap, refl, sym}
 use Prim.Native.Nat.{_-_, _≤_}
+use lib.Dec.{leb}
 use lib.ListN.{getD}
 use borrow.Author.Needs.{needs}
 use borrow.Author.Tests.{not-false, not-true}
 use native.Mathlib.Omega.{arith}
 use Rattle.causality.specs.Marks.{places}
-use Rattle.rows.specs.View.{width}
+use Rattle.causality.proofs.EvidenceLaws.{told-by-count}
+use Rattle.rows.specs.View.{nameAt, view, width}
+use Rattle.rows.proofs.Places.{named-has}
 use Rattle.rows.proofs.RowSteps.{named-at, named-less}
 use Rattle.rows.proofs.Slots.{zero-all}
 use Rattle.concurrent.proofs.ApartTurns.{ApartTo, Both, apart-all, apart-none, turn-apart, turn-follows, turn-past}
@@ -35,7 +38,17 @@ both : (c : tie.After-first-followers Inv-loop μ-loop) → let s = c .before .b
     Both width (s .args .desks .now) (s .args .numbers .now) (s .args .stamps .now) (s .args .count) (c .first-followers .result) (c .before .past .result) (s .args .p .0)
 both c =
     let s = c .before .before in
-    record { inside = s .pre .1; follows = c .first-followers .ensures; precede = λ bs sound. c .before .past .ensures (s .args .count) bs (s .pre .1) (s .pre .2) sound }
+    let ds = s .args .desks .now in
+    let ns = s .args .numbers .now in
+    let ss = s .args .stamps .now in
+    let count = s .args .count in
+    record {
+      inside = s .pre .1;
+      follows = c .first-followers .ensures;
+      precede = λ bs sound i t.
+          let w = named-has width ds ns bs ss count (s .pre .2) i t in
+          told-by-count (view width count ds ns bs ss) sound i (nameAt ds ns (s .args .p .0)) t ∙ ap (leb (i .number)) (sym (c .before .past .ensures count (s .pre .1) bs sound (i .desk) (w .0) (w .1)));
+    }
 
 loop-again : tie.Need-loop-again Inv-loop μ-loop
 loop-again c =
