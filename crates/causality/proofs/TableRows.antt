@@ -57,7 +57,7 @@ module _ (N : ℕ) where
   pub rows-are : (f : ℕ → ℕ → ℕ) (xs : List ℕ) → length xs ≡ tableSize N → ((i j : ℕ) → i < N → j < N → getD xs (i * N + j) 0 ≡ f (suc i) (suc j)) → xs ≡ tableRows N N f
   rows-are f xs l h = ext-getD 0 xs (tableRows N N f) (l ∙ sym (rows-length N f)) (λ k q. by-rows N N xs (tableRows N N f) (λ i j a b. h i j a b ∙ sym (rows-at N f i j a b)) k (omega arith))
 
-  cell-in : (i j : ℕ) → i < N → j < N → i * N + j < N * N
+  pub cell-in : (i j : ℕ) → i < N → j < N → i * N + j < tableSize N
   cell-in i j hi hj = let a = suc-mul i N in let b = mul-le-mul-right {m = suc i} {n = N} N (omega arith) in omega arith
 
   -- "entry (i, j) at 16·(i − 1) + j − 1 of its table", "the first table first".

@@ -275,7 +275,7 @@ all-pairs (m ∷ older) s i j ne =
     go false p true q x y z ih = let f = past-few m older s i in let k = mul-suc ti tj in omega arith
     go false p false q x y z ih = omega arith
 
-few-pairs : (R : MarkId → MarkId → Bool) (l : List Mark) → length l ≤ places → (i j : ℕ) → pairsOf R (ids l) i j < 4_294_967_296
+few-pairs : (R : MarkId → MarkId → Bool) (l : List Mark) → length l ≤ places → (i j : ℕ) → pairsOf R (ids l) i j ≤ places * places
 few-pairs R l f i j =
     let a = tally-length i l in
     let b = tally-length j l in
@@ -283,13 +283,20 @@ few-pairs R l f i j =
     let d = mul-le-mul {n₁ = tally i (ids l)} {m₁ = tally j (ids l)} {n₂ = places} {m₂ = places} (omega arith) (omega arith) in
     omega arith
 
+pub apart-most : (l : List Mark) → length l ≤ places → (i j : ℕ) → pairsApart l i j ≤ places * places
+unfolding pairsApart
+apart-most l f = few-pairs (concurrent l) l f
+
+pub before-most : (l : List Mark) → length l ≤ places → (i j : ℕ) → pairsBefore l i j ≤ places * places
+unfolding pairsBefore
+before-most l f = few-pairs (precedes l) l f
+
 pub pair-laws : (l : List Mark) → Sound l → length l ≤ places → PairLaws l
-unfolding pairsApart pairsBefore
 pair-laws l s f = record {
   all-pairs = all-pairs l s;
   none-apart = none-apart l s;
   own-before = own-before l s;
   symmetric = apart-symmetric l s;
-  apart-fits = few-pairs (concurrent l) l f;
-  before-fits = few-pairs (precedes l) l f;
+  apart-fits = λ i j. let h = apart-most l f i j in omega arith;
+  before-fits = λ i j. let h = before-most l f i j in omega arith;
 }

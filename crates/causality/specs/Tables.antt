@@ -68,6 +68,10 @@ pub record EntriesAt (N : ℕ) (first second : ℕ → ℕ → ℕ) (counts : Li
   pub in-first : (i j : ℕ) → 1 ≤ i → i ≤ N → 1 ≤ j → j ≤ N → getD counts (N * (i - 1) + (j - 1)) 0 ≡ first i j
   pub in-second : (i j : ℕ) → 1 ≤ i → i ≤ N → 1 ≤ j → j ≤ N → getD counts (tableSize N + (N * (i - 1) + (j - 1))) 0 ≡ second i j
 
+-- 2³²: a 32-bit count is below it.
+abbrev pub countLimit : ℕ
+countLimit = 4_294_967_296
+
 -- The laws of the tables, of any desks i and j.
 pub record PairLaws (executed : List Mark) : Type 0 where
   -- "For i ≠ j with n and m executed marks, apart(i, j) + before(i, j) + before(j, i) = n · m."
@@ -78,5 +82,5 @@ pub record PairLaws (executed : List Mark) : Type 0 where
   pub own-before : (i : ℕ) → pairsBefore executed i i ≡ tally i (ids executed) * (tally i (ids executed) - 1) / 2
   pub symmetric : (i j : ℕ) → pairsApart executed i j ≡ pairsApart executed j i
   -- They are "32-bit counts".
-  pub apart-fits : (i j : ℕ) → pairsApart executed i j < 4_294_967_296
-  pub before-fits : (i j : ℕ) → pairsBefore executed i j < 4_294_967_296
+  pub apart-fits : (i j : ℕ) → pairsApart executed i j < countLimit
+  pub before-fits : (i j : ℕ) → pairsBefore executed i j < countLimit

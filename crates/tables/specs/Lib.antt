@@ -1,0 +1,2 @@
+-- The modules of the definitions.
+pub mod Steps
