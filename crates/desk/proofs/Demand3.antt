@@ -13,6 +13,7 @@ use Rattle.causality.specs.Evidence.{evidence, evidencePairs}
 use Rattle.causality.specs.Marks.{All}
 use Rattle.causality.specs.Meaning.{idOf}
 use Rattle.causality.specs.State.{State}
+use Rattle.causality.specs.Tables.{pairTablesCounts}
 use Rattle.desk.specs.Demand3.{CallRun, CallsAgree, Demand3Calls, Runs, afterConvert, afterMark, afterMiss, afterReceive, converts1, converts1-misses, converts2, converts2-misses, deskAt, marks, misses, receives, starts, statesOf}
 use Rattle.desk.specs.Promises.{NewPromise}
 use Rattle.desk.specs.StateOf.{stateOf}
@@ -22,6 +23,7 @@ use Rattle.history.specs.Run.{Run, Step, atDesk, converted, fed, handing, marki
 use Rattle.history.proofs.Evidence.{evidence-holds}
 use Rattle.history.proofs.MarkRun.{fresh}
 use Rattle.history.proofs.Silent.{silent-desk-leaves}
+use Rattle.history.proofs.Tables.{tables-of-history}
 use Rattle.history.proofs.Theorem.{consequences, demand3}
 
 module _ (fresh : ℕ → CreatedDesk) (news : (d : ℕ) → NewPromise d (fresh d)) where
@@ -96,6 +98,8 @@ module _ (fresh : ℕ → CreatedDesk) (news : (d : ℕ) → NewPromise d (fresh
         let answer = p .answer ∙ ap (λ (y : State). (mark desks y b lent) .answer) (in-run x) in
         let bytes = p .bytes ∙ ap (λ (y : State). (mark desks y b lent) .bytes) (in-run x) in
         rw (answer, bytes) (silent-desk-leaves desks s at x d t q b lent);
+    tabulates = λ x t out after r p.
+        rw (p .answer) (p .counts ∙ ap (λ (y : State). pairTablesCounts desks y out) (in-run x) ∙ tables-of-history desks s at x t out);
   }
     where
       in-run : (d : ℕ) → stateOf (deskAt fresh c d) ≡ stateAt desks (run desks s) d

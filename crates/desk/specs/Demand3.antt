@@ -1,25 +1,28 @@
 -- THE CLAIM. Demand 3 of the calls: over every sequence of markings, hand-overs of frames of either edition and conversions, whatever New, Mark,
--- Receive and the converter did within their promises, desks and plain machine agree, Relate answers as the history has it, so does Evidence, and a
--- silent desk leaves the stamps.
+-- Receive and the converter did within their promises, desks and plain machine agree, Relate answers as the history has it, so does Evidence, a silent
+-- desk leaves the stamps, and Pair tables counts pairs in the history.
 use mathlib.Core.Path.{_≡_}
 use mathlib.Core.List.{List, [], _∷_, map}
 use mathlib.Core.Option.{none, some}
 use Prim.Native.Nat.{ℕ}
 use lib.Dec.{T}
 use Rattle.frame.specs.Answer.{Answer}
-use Rattle.frame.specs.Frame.{writing}
+use Rattle.frame.specs.Frame.{overIf, writing}
 use Rattle.frame.specs.Mark.{MarkId, desks, isDesk}
 use Rattle.frame.specs.declared.MarkBox.{MarkBox}
 use Rattle.frame.specs.declared.Writing.{Writing}
 use Rattle.causality.specs.declared.MarkId.{MarkId as CodeId}
 use Rattle.causality.specs.Marks.{All}
-use Rattle.causality.specs.Meaning.{idOf, numbering, proving, reception, relating}
+use Rattle.causality.specs.Meaning.{counting, idOf, numbering, proving, reception, relating}
+use Rattle.causality.specs.Tables.{tables}
 use Rattle.history.specs.Plain.{StepAnswer, ofMark, ofReceive, Unmade, look, plain, listsAt, relation}
 use Rattle.history.specs.Run.{Step, marking, handing, toSecond, toFirst, atDesk, fed, Written, writtenId, written, converted, frameAt, Run, withoutMissing}
 use Rattle.history.specs.Demand3.{Agree, Consequent}
 use Rattle.history.specs.Evidence.{ProvedBy}
 use Rattle.history.specs.Silent.{Silent, NoneNames}
+use Rattle.history.specs.Tables.{madeApartAt, madeBeforeAt}
 use Rattle.desk.specs.declared.Desk.{Desk}
+use Rattle.desk.specs.declared.CountedDesk.{CountedDesk}
 use Rattle.desk.specs.declared.CreatedDesk.{CreatedDesk}
 use Rattle.desk.specs.declared.MarkedDesk.{MarkedDesk}
 use Rattle.desk.specs.declared.ReceivedDesk.{ReceivedDesk}
@@ -27,7 +30,7 @@ use Rattle.desk.specs.declared.RelatedDesk.{RelatedDesk}
 use Rattle.desk.specs.declared.EvidenceDesk.{EvidenceDesk}
 use Rattle.desk.specs.declared.WrittenDesk.{WrittenDesk}
 use Rattle.desk.specs.StateOf.{stateOf}
-use Rattle.desk.specs.Promises.{NewPromise, MarkPromise, ReceivePromise, RelatePromise, EvidencePromise, ToSecondPromise, ToFirstPromise}
+use Rattle.desk.specs.Promises.{NewPromise, MarkPromise, ReceivePromise, RelatePromise, EvidencePromise, PairTablesPromise, ToSecondPromise, ToFirstPromise}
 
 -- The desks as the last call there gave them, the frames that Mark wrote and the converter made, the answers of Mark and Receive, and those of the
 -- converter; newest first.
@@ -111,6 +114,9 @@ pub record CallsAgree (fresh : ℕ → CreatedDesk) (s : List Step) (c : CallRun
   -- Order 6, "A silent desk leaves the stamps": desk d is silent at desk x, and Mark makes a mark there.
   pub leaves : (x d : ℕ) → T (isDesk desks x) → Silent s x d → (b : MarkBox) (lent after : List ℕ) (r : MarkedDesk)
       → MarkPromise (deskAt fresh c x) b lent after r → NoneNames desks d (written x (numbering (r .answer)) after [])
+  -- Order 7, "how many box pairs two observers made apart": at desk x the tables count the pairs of the history, of the marks executed there.
+  pub tabulates : (x : ℕ) → T (isDesk desks x) → (out after : List ℕ) (r : CountedDesk) → PairTablesPromise (deskAt fresh c x) out after r
+      → after ≡ overIf (counting (r .answer)) (tables desks (madeApartAt s x) (madeBeforeAt s x)) out
 
 abbrev pub Demand3Calls : Type 0
 Demand3Calls = (fresh : ℕ → CreatedDesk) → ((d : ℕ) → NewPromise d (fresh d)) → (s : List Step) → All (λ t. T (atDesk desks t)) s

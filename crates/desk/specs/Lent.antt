@@ -53,3 +53,7 @@ queryLent ds ns ss ts ls bf x = arrays (x .0) (ds .now) (ns .now) (x .1) (x .2) 
 -- What Apart is lent: no boxes, pasts or heads.
 abbrev pub apartLent : ℕ → RefT (List ℕ) → RefT (List ℕ) → RefT (List ℕ) → RefT (List ℕ) → RefT (List ℕ) → RefT (List ℕ) → List ℕ × List ℕ × List ℕ → Arrays
 apartLent count ds ns ss ts ls bf x = arrays count (ds .now) (ns .now) (x .0) (x .1) (ss .now) (ts .now) (x .2) (ls .now) (bf .now)
+
+-- What Pair tables is lent: count, desks, numbers and stamps.
+abbrev pub tablesLent : ℕ → RefT (List ℕ) → RefT (List ℕ) → RefT (List ℕ) → List ℕ × List ℕ × List ℕ × List ℕ × List ℕ × List ℕ → Arrays
+tablesLent count ds ns ss x = arrays count (ds .now) (ns .now) (x .0) (x .1) (ss .now) (x .2) (x .3) (x .4) (x .5)

@@ -9,6 +9,7 @@ use Rattle.frame.specs.declared.MarkBox.{MarkBox}
 use Rattle.causality.specs.declared.MarkId.{MarkId}
 use Rattle.causality.specs.Calls.{new, mark, receive, relate, apartCount, apartPairs, firstApart, frameAgainSize, frameAgainBytes, toSecondSize, toSecondBytes}
 use Rattle.causality.specs.Evidence.{evidence, evidencePairs}
+use Rattle.causality.specs.Tables.{pairTables, pairTablesCounts}
 use Rattle.causality.specs.Meaning.{idOf, creation, numbering, reception, relating, proving, counting, lowestGiven}
 use Rattle.frame.specs.declared.Writing.{Writing}
 use Rattle.concurrent.specs.Found.{ApartFound}
@@ -67,6 +68,12 @@ pub record ApartPromise (d : Desk) (a : MarkId) (out after : List MarkId) (r : C
 pub record ApartListPromise (d : Desk) (a : MarkId) (room : ℕ) (r : ListedDesk) : Type 0 where
   pub desk : r .desk ≡ d
   pub found : ApartFound (stateOf d) (idOf a) room (r .found)
+
+-- Order 7, "Fill two tables .. in one lent run of 32-bit counts".
+pub record PairTablesPromise (d : Desk) (out after : List ℕ) (r : CountedDesk) : Type 0 where
+  pub desk : r .desk ≡ d
+  pub answer : counting (r .answer) ≡ pairTables desks (length out)
+  pub counts : after ≡ pairTablesCounts desks (stateOf d) out
 
 pub record FirstApartPromise (d : Desk) (a : MarkId) (e : ℕ) (r : LowestDesk) : Type 0 where
   pub desk : r .desk ≡ d

@@ -1,4 +1,4 @@
-// One desk's causality engine: the seven calls, the converter, and Evidence.
+// One desk's causality engine: the seven calls, the converter, Evidence and Pair tables.
 mod apart;
 mod convert;
 mod evidence_call;
@@ -6,6 +6,7 @@ mod first_apart;
 mod frame_again;
 mod mark;
 mod new;
+mod pair_tables;
 mod receive;
 mod relate;
 
