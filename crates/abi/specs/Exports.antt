@@ -21,7 +21,7 @@ use Rattle.causality.specs.declared.Related.{Related}
 use Rattle.executed.specs.Arrays.{Arrays, Lending}
 use Rattle.waiting.specs.declared.Waiting.{Waiting}
 use Rattle.desk.specs.Lent.{EachDesk, Marking, Receiving}
-use Rattle.desk.specs.Promises.{NewPromise, RelatePromise, EvidencePromise, ApartPromise, FirstApartPromise, FrameAgainPromise, ToSecondPromise, ToFirstPromise}
+use Rattle.desk.specs.Promises.{NewPromise, RelatePromise, EvidencePromise, ApartPromise, PairTablesPromise, FirstApartPromise, FrameAgainPromise, ToSecondPromise, ToFirstPromise}
 use Rattle.numbers.specs.Numbers.{createdNumber, markedNumbers, receivedNumbers, relatedNumbers, evidenceNumbers, countedNumbers, lowestNumbers, writtenNumbers, readNumbers}
 use Rattle.numbers.specs.declared.ApartAnswer.{ApartAnswer}
 use Rattle.numbers.specs.declared.EvidenceAnswer.{EvidenceAnswer}
@@ -67,6 +67,11 @@ pub record ApartExport {A : Type 0} (lent : A → Arrays) (a : MarkId) (out afte
   pub answer : Counted
   pub numbers : countedNumbers answer ≡ (r .refusal, r .count)
   pub promise : EachDesk lent (λ d. ApartPromise d a out after (record { desk = d; answer = answer }))
+
+pub record PairTablesExport {A : Type 0} (lent : A → Arrays) (out after : List ℕ) (r : ApartAnswer) : Type 0 where
+  pub answer : Counted
+  pub numbers : countedNumbers answer ≡ (r .refusal, r .count)
+  pub promise : EachDesk lent (λ d. PairTablesPromise d out after (record { desk = d; answer = answer }))
 
 pub record FirstExport {A : Type 0} (lent : A → Arrays) (a : MarkId) (e : ℕ) (r : FirstAnswer) : Type 0 where
   pub answer : Lowest

@@ -1,4 +1,4 @@
-// Relate, Evidence, Apart, First apart, Frame again and the converter from 1 to 2 over a desk's lent arrays.
+// Relate, Evidence, Apart, Pair tables, First apart, Frame again and the converter from 1 to 2 over a desk's lent arrays.
 ghost use mathlib.Core.Path.{_≡_};
 ghost use Rattle.causality.specs.Meaning.{idOf};
 ghost use Rattle.concurrent.specs.Found.{ApartFound};
@@ -6,8 +6,8 @@ ghost use Rattle.evidence.specs.Found.{EvidenceFound};
 ghost use Rattle.queries.specs.Lent.{HasLent, OfCount, OfEach};
 ghost use Rattle.executed.specs.Rows.{Lent};
 ghost use Rattle.in_place.specs.Lent.{SomeDesk, againLent};
-ghost use Rattle.desk.specs.Lent.{queryLent, apartLent};
-ghost use Rattle.abi.specs.Exports.{markId, RelateExport, EvidenceExport, ApartExport, FirstExport, AgainExport, ToSecondExport};
+ghost use Rattle.desk.specs.Lent.{queryLent, apartLent, tablesLent};
+ghost use Rattle.abi.specs.Exports.{markId, RelateExport, EvidenceExport, ApartExport, PairTablesExport, FirstExport, AgainExport, ToSecondExport};
 ghost use Rattle.numbers.specs.Numbers.{countedNumbers, evidenceNumbers};
 use causality::MarkId;
 use concurrent::ApartList;
@@ -208,6 +208,22 @@ pub extern "C" fn kaungimewe_apart_lent<'a>(
     );
     pairs::fill(out, found.list);
     answer_of(found)
+}
+
+#[no_mangle]
+pub extern "C" fn kaungimewe_pair_tables_lent<'a>(
+    desks: &'a [u8; PLACES],
+    numbers: &'a [u16; PLACES],
+    stamps: &'a [u16; PLACES * WIDTH],
+    count: usize,
+    out: &mut [u32],
+) -> ApartAnswer
+    requires { ⌜ SomeDesk (tablesLent count desks numbers stamps) ⌝ }
+    ensures { λ r. ⌜ PairTablesExport (tablesLent count (desks .entry) (numbers .entry) (stamps .entry)) (now (out .entry)) (now (out .exit)) r ⌝ }
+{
+    numbers::counted(tables::pair_tables(
+        desks, numbers, stamps, count, out,
+    ))
 }
 
 #[no_mangle]
