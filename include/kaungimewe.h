@@ -38,7 +38,8 @@ enum {
     KAUNGIMEWE_PASTS = 511,        /* a past count is 0 to 511 */
     KAUNGIMEWE_HEAD = 23,          /* bytes of a frame of edition 1 before its entries */
     KAUNGIMEWE_HEAD2 = 25,         /* bytes of a frame of edition 2 before its entries, the past count last */
-    KAUNGIMEWE_LARGEST_FRAME = 73  /* 25 + 3 * 16 */
+    KAUNGIMEWE_LARGEST_FRAME = 73, /* 25 + 3 * 16 */
+    KAUNGIMEWE_PAIR_COUNTS = 2 * KAUNGIMEWE_DESKS * KAUNGIMEWE_DESKS /* counts of both pair tables: 512 */
 };
 
 /* Why a call refuses. Conditions are tried by rising number, but that to2 and to1 try 14 directly behind 6, and to2 then
@@ -64,7 +65,8 @@ enum {
                                     * reckoning: receive */
     KAUNGIMEWE_NOT_EXECUTED = 12,  /* a named mark is not executed: relate, evidence, apart, first_apart, frame_again, to2
                                     * (that of the frame) */
-    KAUNGIMEWE_OUTPUT_SHORT = 13,  /* lent output too short: write, write2, mark, evidence, apart, frame_again, to2, to1 */
+    KAUNGIMEWE_OUTPUT_SHORT = 13,  /* lent output too short: write, write2, mark, evidence, apart, pair_tables,
+                                    * frame_again, to2, to1 */
     KAUNGIMEWE_SAME_EDITION = 14   /* frame already of the wanted edition: to2, to1 */
 };
 
@@ -157,6 +159,9 @@ typedef struct {
     size_t count; /* of the marks apart */
 } kaungimewe_apart_answer;
 
+/* Laid out as that of apart; count: how many counts were written, KAUNGIMEWE_PAIR_COUNTS. */
+typedef kaungimewe_apart_answer kaungimewe_pairs_answer;
+
 typedef struct {
     uint8_t refusal;
     uint16_t number; /* 0 if none */
@@ -206,6 +211,9 @@ kaungimewe_apart_answer kaungimewe_apart_lent(const uint8_t *desks, const uint16
                                               size_t count, const uint16_t *tally, const uint16_t *last,
                                               const uint16_t *before, uint8_t a_desk, uint16_t a_number,
                                               kaungimewe_mark_id *out, size_t room);
+
+kaungimewe_pairs_answer kaungimewe_pair_tables_lent(const uint8_t *desks, const uint16_t *numbers,
+                                                    const uint16_t *stamps, size_t count, uint32_t *out, size_t lent);
 
 kaungimewe_first_answer kaungimewe_first_apart_lent(const uint8_t *desks, const uint16_t *numbers,
                                                     const uint16_t *stamps, const uint16_t *tally, const uint16_t *last,
@@ -277,6 +285,17 @@ static inline kaungimewe_apart_answer kaungimewe_apart(const kaungimewe_desk *de
 {
     return kaungimewe_apart_lent(desk->desks, desk->numbers, desk->stamps, desk->count, desk->tally, desk->last,
                                  desk->before, a_desk, a_number, out, room);
+}
+
+/* Pair tables: how many pairs of executed marks two desks made apart, and how many one in knowledge of the other; waiting
+ * marks are not counted. Two tables, the second behind the first, are written to the first KAUNGIMEWE_PAIR_COUNTS of the
+ * `lent` counts at `out`; later ones keep their values. Entry (i, j) stands at KAUNGIMEWE_DESKS * (i - 1) + j - 1 of its
+ * table. Of the first, apart, it counts the concurrent pairs of one mark of desk i and one of desk j; of the second,
+ * before, the pairs where i's mark precedes j's. For i != j with n and m marks, apart(i, j) + before(i, j) + before(j, i)
+ * = n * m; for i = j, apart is 0 and before is n * (n - 1) / 2. Refuses with 13. */
+static inline kaungimewe_pairs_answer kaungimewe_pair_tables(const kaungimewe_desk *desk, uint32_t *out, size_t lent)
+{
+    return kaungimewe_pair_tables_lent(desk->desks, desk->numbers, desk->stamps, desk->count, out, lent);
 }
 
 /* First apart: the lowest number of the marks of desk `of` that were executed here before the given mark and are

@@ -113,7 +113,7 @@ pub(crate) struct ReadAnswer {
 const _: () = assert!(size_of::<EvidenceAnswer>() == 24 && size_of::<ReadAnswer>() == 32);
 
 // What each call asks of its caller: that all it is lent of a desk is of one desk as New and the calls gave it, and that
-// a pointer is good for so many bytes or names.
+// a pointer is good for so many bytes, names or counts.
 extern "C" {
     pub(crate) fn kaungimewe_new(own: u8) -> NewAnswer;
 
@@ -200,6 +200,15 @@ extern "C" {
         a_number: u16,
         out: *mut MarkId,
         room: usize,
+    ) -> ApartAnswer;
+
+    pub(crate) fn kaungimewe_pair_tables_lent(
+        desks: &[u8; PLACES],
+        numbers: &[u16; PLACES],
+        stamps: &[u16; PLACES * DESKS],
+        count: usize,
+        out: *mut u32,
+        lent: usize,
     ) -> ApartAnswer;
 
     pub(crate) fn kaungimewe_first_apart_lent(

@@ -2,7 +2,9 @@
 use std::fmt;
 
 use crate::abi;
-use crate::{Evidence, Mark, MarkBox, MarkId, Marked, PastCount, Reception, Refusal, Relation};
+use crate::{
+    Evidence, Mark, MarkBox, MarkId, Marked, PairTables, PastCount, Reception, Refusal, Relation, PAIR_COUNTS,
+};
 
 /// A desk: it numbers the marks made there, executes those of other desks in causal order, and relates them.
 ///
@@ -157,6 +159,27 @@ impl Desk {
         };
         Refusal::check(answer.refusal)?;
         Ok(answer.count)
+    }
+
+    /// Pair tables: for each two desks how many pairs of their executed marks are concurrent, and in how many the one's
+    /// mark precedes the other's, to the first [`PAIR_COUNTS`] of the lent counts; later ones keep their values. The first
+    /// table stands first, entry (i, j) at [`DESKS`](crate::DESKS)·(i − 1) + j − 1 of its table. Answers how many counts
+    /// were written. Refuses with 13. [`Desk::tables`] lends enough itself.
+    pub fn pair_tables(&self, out: &mut [u32]) -> Result<usize, Refusal> {
+        let abi::Desk { count, desks, numbers, stamps, .. } = &*self.raw;
+        let (lent, room) = (out.as_mut_ptr(), out.len());
+        // SAFETY: all that is lent is of one desk that came from the calls; the pointer is good for the lent counts, and
+        // `out` overlaps nothing.
+        let answer = unsafe { abi::kaungimewe_pair_tables_lent(desks, numbers, stamps, *count, lent, room) };
+        Refusal::check(answer.refusal)?;
+        Ok(answer.count)
+    }
+
+    /// What Pair tables writes, to be asked by desks.
+    pub fn tables(&self) -> PairTables {
+        let mut counts = vec![0; PAIR_COUNTS];
+        self.pair_tables(&mut counts).expect("enough is lent");
+        PairTables { counts }
     }
 
     /// First apart: the lowest number of that desk's marks executed here before the mark and concurrent with it; 0 if

@@ -3,7 +3,7 @@
 //! Observers draw boxes around whale calls. A box drawn in knowledge of another is no independent sighting. Each
 //! observer works at a [`Desk`], which numbers the marks made there, stamps each with its direct predecessors (direct
 //! causal vectors), executes the marks of other desks in causal order, and says of any two marks which was made in
-//! knowledge of which, with what shows it.
+//! knowledge of which, with what shows it; and how many pairs of marks each two observers made apart ([`PairTables`]).
 //!
 //! ```
 //! use kaungimewe::{Desk, Evidence, MarkBox, MarkId, Reception, Relation, LARGEST_FRAME};
@@ -41,11 +41,13 @@ mod frame;
 mod marks;
 pub mod peers;
 mod refusal;
+mod tables;
 
 pub use desk::{Desk, Snapshot};
 pub use frame::{reader, to1, writer, Fields, HEAD, HEAD2, LARGEST_FRAME, PASTS};
 pub use marks::{Evidence, Mark, MarkBox, MarkId, Marked, PastCount, Reception, Relation};
 pub use refusal::Refusal;
+pub use tables::{PairTables, PAIR_COUNTS};
 
 /// Desks are numbered 1 to 16; a stamp has at most so many entries.
 pub const DESKS: u8 = abi::DESKS as u8;
