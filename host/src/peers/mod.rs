@@ -32,6 +32,8 @@ pub trait Stamped: Engine {
     type Snapshot: PartialEq;
     /// Evidence.
     fn evidence(&self, a: MarkId, b: MarkId, out: &mut [MarkId]) -> Result<Evidence, Refusal>;
+    /// Pair tables.
+    fn pair_tables(&self, out: &mut [u32]) -> Result<usize, Refusal>;
     /// Frame again.
     fn frame_again(&self, a: MarkId, out: &mut [u8]) -> Result<usize, Refusal>;
     /// The converter from edition 1 to 2.
@@ -69,6 +71,9 @@ impl Stamped for Desk {
     type Snapshot = Snapshot;
     fn evidence(&self, a: MarkId, b: MarkId, out: &mut [MarkId]) -> Result<Evidence, Refusal> {
         Desk::evidence(self, a, b, out)
+    }
+    fn pair_tables(&self, out: &mut [u32]) -> Result<usize, Refusal> {
+        Desk::pair_tables(self, out)
     }
     fn frame_again(&self, a: MarkId, out: &mut [u8]) -> Result<usize, Refusal> {
         Desk::frame_again(self, a, out)

@@ -1,8 +1,8 @@
 //! The calls of the engine by reference.
-use super::{agree, false_stamp, frame, missing, ByReference, Held, Row};
+use super::{agree, false_stamp, frame, missing, ByReference, Held, Row, WIDTH};
 use crate::peers::{Engine, Stamped};
 use crate::{Evidence, Mark, MarkBox, MarkId, Marked, PastCount, Reception, Refusal, Relation};
-use crate::{DESKS, PLACES, WAITING};
+use crate::{DESKS, PAIR_COUNTS, PLACES, WAITING};
 
 impl ByReference {
     fn full(&self) -> bool {
@@ -171,6 +171,25 @@ impl Stamped for ByReference {
             (_, false) => Evidence::Before { length },
             (_, true) => Evidence::After { length },
         })
+    }
+
+    fn pair_tables(&self, out: &mut [u32]) -> Result<usize, Refusal> {
+        let tables = out.get_mut(..PAIR_COUNTS).ok_or(Refusal::OutputShort)?;
+        tables.fill(0);
+        let (apart, before) = tables.split_at_mut(PAIR_COUNTS / 2);
+        for q in 0..self.desks.len() {
+            let j = usize::from(self.desks[q]) - 1;
+            for p in 0..q {
+                let i = usize::from(self.desks[p]) - 1;
+                if self.precedes(p, q) {
+                    before[i * WIDTH + j] += 1;
+                } else {
+                    apart[i * WIDTH + j] += 1;
+                    apart[j * WIDTH + i] += 1;
+                }
+            }
+        }
+        Ok(PAIR_COUNTS)
     }
 
     fn frame_again(&self, a: MarkId, out: &mut [u8]) -> Result<usize, Refusal> {

@@ -2,7 +2,7 @@
 //!
 //! What the proved engine finds by following stamp entries, its trace, stands here ready in the full counts: at index
 //! d − 1 how many marks of desk d precede the mark. Their sum, the past count, is kept as well. Relate and Evidence find
-//! marks by an index; the other calls look for a mark at all places.
+//! marks by an index, Pair tables ask each pair of places once; the other calls look for a mark at all places.
 mod calls;
 mod frame;
 

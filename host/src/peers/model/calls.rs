@@ -3,7 +3,7 @@ use std::collections::BTreeMap;
 
 use super::{codec, same, Model};
 use crate::peers::{Engine, Stamped};
-use crate::{Evidence, Mark, MarkBox, MarkId, Marked, PastCount, Reception, Refusal, Relation};
+use crate::{Evidence, Mark, MarkBox, MarkId, Marked, PastCount, Reception, Refusal, Relation, PAIR_COUNTS};
 
 impl Model {
     /// 7: of this desk and not yet made.
@@ -130,6 +130,12 @@ impl Stamped for Model {
             Relation::Before => Evidence::Before { length },
             _ => Evidence::After { length },
         })
+    }
+
+    fn pair_tables(&self, out: &mut [u32]) -> Result<usize, Refusal> {
+        let out = out.get_mut(..PAIR_COUNTS).ok_or(Refusal::OutputShort)?;
+        out.copy_from_slice(&self.tables());
+        Ok(PAIR_COUNTS)
     }
 
     fn frame_again(&self, a: MarkId, out: &mut [u8]) -> Result<usize, Refusal> {

@@ -7,6 +7,7 @@ mod calls;
 pub mod codec;
 mod evidence;
 mod past;
+mod tables;
 
 use std::collections::{BTreeMap, BTreeSet};
 
