@@ -12,6 +12,9 @@ _Static_assert(sizeof(kaungimewe_desk) == 31672, "a desk has 31,672 bytes");
 _Static_assert(sizeof(kaungimewe_evidence_answer) == 24, "what evidence answers has 24 bytes");
 _Static_assert(offsetof(kaungimewe_evidence_answer, length) == 8, "the length stands at offset 8");
 _Static_assert(offsetof(kaungimewe_evidence_answer, second) == 18, "the second count stands at offset 18");
+_Static_assert(sizeof(kaungimewe_pairs_answer) == 16, "what pair tables answer has 16 bytes");
+_Static_assert(offsetof(kaungimewe_pairs_answer, count) == 8, "the count stands at offset 8");
+_Static_assert(KAUNGIMEWE_PAIR_COUNTS == 512, "two tables of 16 by 16 have 512 counts");
 _Static_assert(sizeof(kaungimewe_read_answer) == 32, "what the reader answers has 32 bytes");
 _Static_assert(offsetof(kaungimewe_read_answer, edition) == 20, "the edition stands at offset 20");
 _Static_assert(offsetof(kaungimewe_read_answer, past) == 22, "the past count stands at offset 22");
@@ -160,6 +163,47 @@ static void check_apart(void)
     check(named(out[0], 2, 1) && named(out[1], 1, 2) && named(out[2], 2, 2), "they are 2.1, 1.2, 2.2");
     check(named(out[3], 99, 9), "later names keep their values");
     check(kaungimewe_apart(&desk[3], 4, 1, out, 3).count == 3, "room for three");
+}
+
+/* Desk d's tables: the counts of desks 1 to 4 in the first and in the second. */
+static void check_pair_tables(int d, const uint32_t apart[4][4], const uint32_t precedes[4][4])
+{
+    enum { TABLE = KAUNGIMEWE_PAIR_COUNTS / 2, LENT = KAUNGIMEWE_PAIR_COUNTS + 88 };
+    uint32_t out[LENT], expected[LENT];
+    memset(out, 0x77, sizeof out);
+    memset(expected, 0x77, sizeof expected);
+    remember(d);
+    kaungimewe_pairs_answer a = kaungimewe_pair_tables(&desk[d], out, KAUNGIMEWE_PAIR_COUNTS - 1);
+    check(a.refusal == KAUNGIMEWE_OUTPUT_SHORT && a.count == 0, "511 counts are too few");
+    check(kaungimewe_pair_tables(&desk[d], out, 0).refusal == KAUNGIMEWE_OUTPUT_SHORT, "no counts are too few");
+    check(memcmp(out, expected, sizeof out) == 0, "refused pair tables write nothing");
+    memset(expected, 0, KAUNGIMEWE_PAIR_COUNTS * sizeof expected[0]);
+    for (int i = 0; i < 4; i++) {
+        memcpy(&expected[KAUNGIMEWE_DESKS * i], apart[i], sizeof apart[i]);
+        memcpy(&expected[TABLE + KAUNGIMEWE_DESKS * i], precedes[i], sizeof precedes[i]);
+    }
+    a = kaungimewe_pair_tables(&desk[d], out, LENT);
+    check(a.refusal == 0 && a.count == KAUNGIMEWE_PAIR_COUNTS, "pair tables answer how many counts are written");
+    check(memcmp(out, expected, sizeof out) == 0, "the tables, and later counts keep their values");
+    check(kaungimewe_pair_tables(&desk[d], out, KAUNGIMEWE_PAIR_COUNTS).count == 512, "512 counts are enough");
+    check_unchanged(d, "pair tables leave the desk");
+}
+
+/* A fresh desk's tables. */
+static void check_no_pairs(void)
+{
+    static const uint32_t none[4][4];
+    check_pair_tables(1, none, none);
+}
+
+static void check_pairs(void)
+{
+    static const uint32_t apart[4][4] = {{0, 1, 3, 1}, {1, 0, 3, 2}, {3, 3, 0, 0}, {1, 2, 0, 0}};
+    static const uint32_t precedes[4][4] = {{1, 2, 0, 1}, {1, 1, 0, 0}, {1, 1, 1, 2}, {0, 0, 0, 0}};
+    uint32_t out[KAUNGIMEWE_PAIR_COUNTS];
+    check_pair_tables(3, apart, precedes);
+    kaungimewe_pair_tables(&desk[3], out, KAUNGIMEWE_PAIR_COUNTS);
+    check(out[291] == 2, "both marks of desk 3 precede 4.1");
 }
 
 static void check_first_apart(void)
@@ -332,6 +376,7 @@ static void check_desk_3(void)
     check_relations();
     check_evidence();
     check_apart();
+    check_pairs();
     check_first_apart();
     check_frames();
 }
@@ -339,6 +384,7 @@ static void check_desk_3(void)
 int main(void)
 {
     new_desks();
+    check_no_pairs();
     refuse_mark(1, 1500, 24, KAUNGIMEWE_OUTPUT_SHORT);
     refuse_mark(1, 999, KAUNGIMEWE_LARGEST_FRAME, KAUNGIMEWE_FIELD_RANGE);
     frame f11 = mark(1, 1, 25), f21 = mark(2, 1, 25), f31 = mark(3, 1, 25), f32 = mark(3, 2, 28);

@@ -1,13 +1,14 @@
 //! What is compared after each sequence: lists, waiting sets, stamps, past counts, relations, evidence, Apart, First apart,
-//! frames and their conversions.
+//! Pair tables, frames and their conversions.
 use std::collections::BTreeMap;
 
 use kaungimewe::peers::draws::Draws;
 use kaungimewe::peers::model::codec;
 use kaungimewe::peers::{Engine, Stamped};
-use kaungimewe::{Evidence, Mark, MarkId, Refusal, LARGEST_FRAME, PLACES};
+use kaungimewe::{Evidence, Mark, MarkId, Refusal, LARGEST_FRAME, PAIR_COUNTS, PLACES};
 
 use crate::pair::{both, edition1, Pair};
+use crate::tables::check_laws;
 
 /// Up to so many names are asked of; of more, so many drawn ones.
 const ASKED: usize = 72;
@@ -40,6 +41,7 @@ impl<E: Stamped> Pair<E> {
                 self.compare_evidence(a, b, &stamps);
             }
         }
+        self.compare_tables();
         assert!(before == self.engine.snapshot(), "a question has changed the desk");
     }
 
@@ -99,6 +101,16 @@ impl<E: Stamped> Pair<E> {
             Evidence::After { .. } => assert_eq!(ends, Some((&b, &a))),
             Evidence::Concurrent { first, second } => assert!(first < a.number && second < b.number),
         }
+    }
+
+    /// With counts to spare, just enough, and one too few; and the laws of the tables, by the marks that are executed.
+    pub fn compare_tables(&self) {
+        let tables = self.pair_tables(PAIR_COUNTS + 3).expect("enough is lent");
+        let mut again = vec![0; PAIR_COUNTS];
+        assert_eq!(self.engine.pair_tables(&mut again), Ok(PAIR_COUNTS), "pair tables into just enough");
+        assert_eq!(again, tables, "pair tables into just enough");
+        assert_eq!(self.pair_tables(PAIR_COUNTS - 1), Err(Refusal::OutputShort));
+        check_laws(&tables, &self.model.executed());
     }
 
     /// Frame again writes edition 2; to edition 1, and at this desk back to 2, it is the same frame.

@@ -90,6 +90,7 @@ fn every_pair_of_a_full_desk() {
         }
         desk.compare_apart(a);
     }
+    desk.compare_tables();
 }
 
 #[test]

@@ -16,3 +16,4 @@ mod pair;
 mod pinned;
 mod sequences;
 mod silent;
+mod tables;

@@ -4,10 +4,13 @@ use std::collections::{BTreeMap, BTreeSet};
 
 use kaungimewe::peers::draws::Draws;
 use kaungimewe::peers::Stamped;
-use kaungimewe::{reader, Desk, Evidence, Mark, MarkBox, MarkId, PastCount, Refusal, LARGEST_FRAME, PLACES};
+use kaungimewe::{
+    reader, Desk, Evidence, Mark, MarkBox, MarkId, PastCount, Refusal, LARGEST_FRAME, PAIR_COUNTS, PLACES,
+};
 
 use crate::answers::Answers;
 use crate::pair::{edition1, to1, Pair};
+use crate::tables::indexes;
 
 /// Of each desk up to so many drawn pairs of marks have their evidence held against the history.
 const DISPUTED: usize = 40;
@@ -195,6 +198,7 @@ impl<E: Stamped> Network<E> {
             for _ in 0..DISPUTED.min(executed.len()) {
                 self.compare_evidence(desk, draws.pick(&executed).id, draws.pick(&executed).id, &stamps);
             }
+            self.compare_tables(desk, &listed);
             for mark in desk.engine.waiting() {
                 assert!(!self.pasts[&mark.id].is_subset(&listed), "{} waits for nothing", mark.id);
                 self.compare_past(mark.id, mark.past, &mark.stamp, &stamps);
@@ -228,6 +232,20 @@ impl<E: Stamped> Network<E> {
             let leads = |e: &&MarkId| **e == chain[0] || self.pasts[*e].contains(&chain[0]);
             assert_eq!(stamps[&pair[1]].iter().find(leads), Some(&pair[0]), "evidence {a} {b}: {chain:?}");
         }
+    }
+
+    /// Pair tables hold in the history: they count the pairs of executed marks by the pasts.
+    fn compare_tables(&self, desk: &Pair<E>, executed: &BTreeSet<MarkId>) {
+        let mut expected = vec![0; PAIR_COUNTS];
+        for a in executed {
+            for b in executed {
+                let (precedes, follows) = (self.pasts[b].contains(a), self.pasts[a].contains(b));
+                let (apart, before) = indexes(a.desk, b.desk);
+                expected[apart] += u32::from(a != b && !precedes && !follows);
+                expected[before] += u32::from(precedes);
+            }
+        }
+        assert_eq!(desk.pair_tables(PAIR_COUNTS), Ok(expected), "pair tables of desk {}", desk.own);
     }
 
     /// The marks of a mark's past that happened before no other mark of it.

@@ -15,6 +15,9 @@ const LENT: usize = 96;
 /// What lent names hold before a call.
 const NAME: MarkId = MarkId { desk: 99, number: 9 };
 
+/// What lent counts hold before a call.
+const COUNT: u32 = 0x7777_7777;
+
 /// A desk of the engine and the model's desk of the same number.
 pub struct Pair<E> {
     pub own: u8,
@@ -84,6 +87,21 @@ impl<E: Stamped> Pair<E> {
         assert!(found[length..].iter().all(|name| *name == NAME), "evidence {a} {b} {room} writes too much");
         found.truncate(length);
         answer.map(|evidence| (evidence, found))
+    }
+
+    /// Pair tables into so many lent counts: both tables. Counts beyond them keep their values, one behind the lent ones
+    /// too, and the desk is as it was.
+    pub fn pair_tables(&self, lent: usize) -> Result<Vec<u32>, Refusal> {
+        let before = self.engine.snapshot();
+        let (mut expected, mut found) = (vec![COUNT; lent + 1], vec![COUNT; lent + 1]);
+        let answer = self.model.pair_tables(&mut expected[..lent]);
+        assert_eq!(self.engine.pair_tables(&mut found[..lent]), answer, "pair tables into {lent}");
+        assert_eq!(found, expected, "pair tables into {lent}");
+        assert!(before == self.engine.snapshot(), "pair tables have changed the desk");
+        let written = answer.unwrap_or(0);
+        assert!(found[written..].iter().all(|count| *count == COUNT), "pair tables into {lent} write too much");
+        found.truncate(written);
+        answer.map(|_| found)
     }
 
     /// From edition 1 to 2 into so many lent bytes: the frame.
