@@ -56,6 +56,7 @@ fn examples_are_answered_as_stored() {
     assert_eq!(printed(&["run", "first_apart.txt"], ""), stored("first_apart.out"));
     assert_eq!(printed(&["run", "why.txt"], ""), stored("why.out"));
     assert_eq!(printed(&["run", "silent.txt"], ""), stored("silent.out"));
+    assert_eq!(printed(&["run", "pairs.txt"], ""), stored("pairs.out"));
 }
 
 #[test]
@@ -83,11 +84,12 @@ fn a_wrong_line_stops_the_run() {
         ("new 1\nhand 2 1.1\n", "desk 1\n", "line 2: there is no such desk: `new` has not made it\n"),
         ("new 1\nhand1 2 1.1\n", "desk 1\n", "line 2: there is no such desk: `new` has not made it\n"),
         ("new 1\nwhy 2 1.1 1.1\n", "desk 1\n", "line 2: there is no such desk: `new` has not made it\n"),
+        ("new 1\npairs 2\n", "desk 1\n", "line 2: there is no such desk: `new` has not made it\n"),
         ("new 1\nto2 2 -\n", "desk 1\n", "line 2: there is no such desk: `new` has not made it\n"),
         ("read 0g\n", "", "line 1: HEX `0g` is not whole bytes in hex, nor `-`\n"),
         ("mark 1 0 1 2 3", "", "line 1: there is no such desk: `new` has not made it\n"),
     ] {
-        for command in ["run", "draw"] {
+        for command in ["run", "draw", "pairs"] {
             let output = tool(&[command], script);
             assert_eq!((text(&output.stderr), output.status.code()), (wrong, Some(2)), "{command} {script}");
             assert_eq!(text(&output.stdout), if command == "run" { answers } else { "" });
@@ -109,6 +111,11 @@ fn wrong_commands_are_told() {
         &["draw", "--why", "3.1,", "paper.txt"],
         &["draw", "--why", "3.1,2.2,1.1", "paper.txt"],
         &["draw", "--why", "3.1,9.9", "paper.txt"],
+        &["pairs", "--fly", "paper.txt"],
+        &["pairs", "none.txt"],
+        &["pairs", "paper.txt", "paper.txt"],
+        &["pairs", "--desk"],
+        &["pairs", "--desk", "three", "paper.txt"],
         &["bench", "--rounds", "many"],
         &["bench", "--check", "--fly"],
         &[],
@@ -122,17 +129,54 @@ fn wrong_commands_are_told() {
 #[test]
 fn help_names_every_call_and_refusal() {
     let tool = printed(&["--help"], "");
-    for command in ["run [--explain]", "draw [--apart A.N] [--why A.N,B.M]", "bench [--check]"] {
+    for command in ["run [--explain]", "draw [--apart A.N] [--why A.N,B.M]", "pairs [--desk D]", "bench [--check]"] {
         assert!(tool.contains(&format!("./kaungimewe {command}")), "{command}");
     }
     let help = printed(&["run", "--help"], "");
     let calls = ["new", "mark", "receive", "hand", "hand1", "relate", "why", "apart", "first", "frame", "list", "held"];
-    for call in calls.iter().chain(&["read", "write", "write2", "to2", "to1"]) {
+    for call in calls.iter().chain(&["pairs", "read", "write", "write2", "to2", "to1"]) {
         assert!(help.contains(&format!("\n  {call} ")), "{call}");
     }
     for refusal in kaungimewe::Refusal::ALL {
         assert!(help.contains(refusal.sentence()), "{refusal}");
     }
+}
+
+#[test]
+fn the_pairs_of_the_scenario() {
+    assert_eq!(printed(&["pairs", "--desk", "3", "paper.txt"], ""), stored("pairs.csv"));
+    assert_eq!(printed(&["pairs", "--desk", "3"], &stored("paper.txt")), stored("pairs.csv"));
+    let columns = stored("pairs.csv").lines().next().expect("the names of the columns").to_string();
+    let first = format!("{columns}\n1,2,2,1,1,0,1\n1,3,2,1,1,0,1\n2,3,1,1,1,0,0\n");
+    assert_eq!(printed(&["pairs", "paper.txt"], ""), first, "the lowest desk is asked");
+    assert_eq!(printed(&["pairs", "--desk", "1", "paper.txt"], ""), first);
+    for alone in ["new 2\n", "new 2\nmark 2 0 1 0 1\nmark 2 0 1 0 1\n", "new 1\nnew 2\nmark 1 0 1 0 1\n"] {
+        assert_eq!(printed(&["pairs", "--desk", "2"], alone), format!("{columns}\n"), "{alone}");
+    }
+    let asked = format!("{}pairs 3\n", stored("paper.txt"));
+    assert_eq!(printed(&["draw", "--apart", "4.1"], &asked), stored("paper.svg"), "a picture shows nothing of it");
+    let help = printed(&["pairs", "--help"], "");
+    assert!(columns.split(',').all(|column| help.contains(column)), "every column");
+}
+
+/// The desk that is named must be made by the script, or one at all; waiting marks and refused calls do not matter.
+#[test]
+fn the_desk_whose_pairs_are_asked() {
+    let script = "new 5\nnew 2\nmark 5 0 1 0 1\nmark 5 0 1 0 1\nmark 2 0 1 0 1\nhand 2 5.2\nreceive 2 -\n";
+    for (words, script, wrong) in [
+        (&["pairs", "--desk", "1"], script, "this script makes no desk 1\n"),
+        (&["pairs", "--desk", "17"], "new 17\n", "this script makes no desk 17\n"),
+        (&["pairs", "--desk", "258"], script, "this script makes no desk 258\n"),
+        (&["pairs", "--desk", "0"], "", "this script makes no desk 0\n"),
+        (&["pairs", "-", "-"], "", "`-` is a second file\n"),
+    ] {
+        let output = tool(words, script);
+        assert_eq!((text(&output.stderr), text(&output.stdout), output.status.code()), (wrong, "", Some(2)));
+    }
+    let output = tool(&["pairs"], "# none\nnew 17\n");
+    assert_eq!((text(&output.stderr), output.status.code()), ("this script makes no desk\n", Some(2)));
+    assert_eq!(printed(&["pairs"], script).lines().count(), 1, "5.2 waits at desk 2");
+    assert!(printed(&["pairs"], &format!("{script}hand 2 5.1\n")).ends_with("\n2,5,1,2,2,0,0\n"));
 }
 
 #[test]

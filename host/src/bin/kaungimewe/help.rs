@@ -5,10 +5,11 @@ kaungimewe: desks of the proved causality engine, at a terminal
 
   ./kaungimewe run [--explain] [FILE]                            a script of calls, one answer a line
   ./kaungimewe draw [--apart A.N] [--why A.N,B.M] [FILE] > SVG   the same script as a picture
+  ./kaungimewe pairs [--desk D] [FILE] > CSV                     how many pairs of marks each two observers made apart
   ./kaungimewe bench [--check] [--rounds N] [--seed S]           the engine's times beside those of two others
 
 FILE is a script; without it, or with -, the script is read from standard input.
-`./kaungimewe run --help` says what a script is, `draw --help` and `bench --help` what they show.
+`./kaungimewe run --help` says what a script is, `draw --help`, `pairs --help` and `bench --help` what they show.
 Exit status: 0; 1 where `bench --check` finds a bound missed; 2 where the command or a line of the script is wrong.
 ";
 
@@ -28,6 +29,7 @@ what stands behind a #.
   why D A.N B.M [ROOM]                   same 1 A.N | before LENGTH A.N .. B.M | after LENGTH B.M .. A.N
                                          | concurrent X Y           | refused C
   apart D A.N [ROOM]                     apart COUNT A.N ..         | refused C
+  pairs D [LENT]                         pairs 512 apart I.J=N .. before I.J=N ..               | refused C
   first D A.N E                          first N                    | refused C
   frame D A.N [LENT]                     frame SIZE HEX             | refused C
   list D                                 executed A.N ..            by place
@@ -44,11 +46,14 @@ what stands behind a #.
 
 D and E are desks, 1 to 16. A.N is the N-th mark made at desk A. START and END are milliseconds, LOW and HIGH hertz, 32 bits
 each; a click is boxed as one instant, with START and END the same. LENT is how many bytes the call is lent to write to (the
-largest frame, 73, if left out), ROOM how many names (512).
+largest frame, 73, if left out), of `pairs` how many counts (512), ROOM how many names (512).
 `why` gives what `relate` does, and what shows it: a chain of LENGTH marks from the earlier to the later one, each an entry
 of the next one's stamp. Going back from the later mark, it takes the entry of lowest desk that is the earlier mark or
 follows it. Of concurrent marks X counts the marks of desk A in the past of B.M, fewer than N, and Y those of desk B in the
 past of A.N, fewer than M.
+`pairs` counts pairs of marks that are executed at D, by the desks that made them: I.J=N behind `apart` says that N pairs of
+one mark of desk I and one of desk J are concurrent, behind `before` that in N such pairs the mark of I precedes that of J.
+What is 0 is left out. `./kaungimewe pairs` gives the same as a table.
 A frame of edition 2 says PAST, its mark's past count: the number of marks that precede the mark, 0 to 511. `mark` and
 `frame` write edition 2; `receive` takes both.
 `mark` stamps the new mark with the executed marks that precede no other. So a silent desk fades from the stamps: once a
@@ -78,6 +83,22 @@ they were made, and the arrows between them. Concurrent marks have none; their t
 desk answers `why` that has executed both marks at the end of the script. A click, which has no width, has a narrow box, as
 wide as its name. Point at a box for its times, or a click's instant, its frequencies, its stamp and its past count, which
 is not said of a waiting mark that came in edition 1.
+";
+
+pub const PAIRS: &str = "\
+./kaungimewe pairs [--desk D] [FILE] > pairs.csv
+
+Runs the script that `run` answers and prints, as comma-separated values, how many pairs of marks each two observers made
+apart: as desk D has it at the end of the script, or the lowest desk of the script if --desk is left out. Behind the line of
+names stands one line for each two desks that both have marks executed at D, by rising numbers; waiting marks are not
+counted.
+
+  first, second                  the two desks
+  marks_first, marks_second      how many marks of each are executed at D
+  apart                          pairs of one mark of each that were made without sight of each other
+  first_before, second_before    pairs where the first desk's mark precedes the second's, and the other way about
+
+The last three add up to marks_first times marks_second.
 ";
 
 pub const BENCH: &str = "\

@@ -2,6 +2,7 @@
 mod bench;
 mod draw;
 mod help;
+mod pairs;
 mod room;
 mod run;
 mod script;
@@ -32,6 +33,7 @@ fn command(words: &[&str]) -> Result<bool, String> {
         Some((&("--help" | "-h"), _)) => say(help::TOOL)?,
         Some((&"run", rest)) => run_command(rest)?,
         Some((&"draw", rest)) => draw_command(rest)?,
+        Some((&"pairs", rest)) => pairs_command(rest)?,
         Some((&"bench", rest)) => return bench_command(rest),
         Some((word, _)) => return Err(format!("`{word}` is not a command: see ./kaungimewe --help")),
         None => return Err(help::TOOL.trim_end().to_string()),
@@ -63,6 +65,19 @@ fn draw_command(words: &[&str]) -> Result<(), String> {
         }
     }
     say(&draw::draw(open(file)?, apart, why)?)
+}
+
+fn pairs_command(words: &[&str]) -> Result<(), String> {
+    let (mut desk, mut file) = (None, None);
+    let mut words = words.iter();
+    while let Some(word) = words.next() {
+        match *word {
+            "--help" | "-h" => return say(help::PAIRS),
+            "--desk" => desk = Some(count(words.next(), "--desk")?),
+            _ => file = Some(file_name(word, file)?),
+        }
+    }
+    say(&pairs::pairs(open(file)?, desk)?)
 }
 
 /// False where a bound was to be checked and is missed.

@@ -2,7 +2,7 @@
 use std::collections::BTreeMap;
 use std::fmt::Write;
 
-use kaungimewe::{reader, to1, writer, LARGEST_FRAME};
+use kaungimewe::{reader, to1, writer, DESKS, LARGEST_FRAME};
 use kaungimewe::{Desk, Evidence, Fields, Mark, MarkBox, MarkId, PastCount, Reception, Refusal, Relation};
 
 use crate::script::Call;
@@ -45,6 +45,7 @@ impl Room {
             Call::Relate { desk, a, b } => self.desk(*desk)?.relate(*a, *b).map(relation),
             Call::Why { desk, a, b, room } => why(self.desk(*desk)?, *a, *b, *room),
             Call::Apart { desk, mark, room } => apart(self.desk(*desk)?, *mark, *room),
+            Call::Pairs { desk, lent } => pairs(self.desk(*desk)?, *lent),
             Call::First { desk, mark, of } => self.desk(*desk)?.first_apart(*mark, *of).map(|n| format!("first {n}")),
             Call::Frame { desk, mark, lent } => {
                 let desk = self.desk(*desk)?;
@@ -127,6 +128,20 @@ fn apart(desk: &Desk, mark: MarkId, room: usize) -> Answer {
     let count = desk.apart(mark, &mut out)?;
     out.truncate(count);
     Ok(names(&format!("apart {count}"), out))
+}
+
+fn pairs(desk: &Desk, lent: usize) -> Answer {
+    let mut out = vec![0; lent];
+    let count = desk.pair_tables(&mut out)?;
+    let (apart, before) = out[..count].split_at(count / 2);
+    Ok(format!("pairs {count} apart{} before{}", entries(apart), entries(before)))
+}
+
+/// The entries of a table that are above 0, by rising index.
+fn entries(table: &[u32]) -> String {
+    let width = usize::from(DESKS);
+    let above = table.iter().enumerate().filter(|(_, &count)| count > 0);
+    above.map(|(at, count)| format!(" {}.{}={count}", at / width + 1, at % width + 1)).collect()
 }
 
 /// A call that writes to so many lent bytes: its word, the size, and what it wrote.

@@ -1,7 +1,7 @@
 //! A script: one call a line.
 use std::io::BufRead;
 
-use kaungimewe::{MarkBox, MarkId, PastCount, LARGEST_FRAME, PLACES};
+use kaungimewe::{MarkBox, MarkId, PastCount, LARGEST_FRAME, PAIR_COUNTS, PLACES};
 
 use crate::words::Words;
 
@@ -16,6 +16,7 @@ pub enum Call {
     Relate { desk: u8, a: MarkId, b: MarkId },
     Why { desk: u8, a: MarkId, b: MarkId, room: usize },
     Apart { desk: u8, mark: MarkId, room: usize },
+    Pairs { desk: u8, lent: usize },
     First { desk: u8, mark: MarkId, of: u8 },
     Frame { desk: u8, mark: MarkId, lent: usize },
     List { desk: u8 },
@@ -48,6 +49,7 @@ fn call_of(w: &mut Words<'_>) -> Result<Call, String> {
         "relate" => Call::Relate { desk: w.desk("D")?, a: w.mark("A.N")?, b: w.mark("B.M")? },
         "why" => Call::Why { desk: w.desk("D")?, a: w.mark("A.N")?, b: w.mark("B.M")?, room: w.count_or_most(PLACES)? },
         "apart" => Call::Apart { desk: w.desk("D")?, mark: w.mark("A.N")?, room: w.count_or_most(PLACES)? },
+        "pairs" => Call::Pairs { desk: w.desk("D")?, lent: w.count_or_most(PAIR_COUNTS)? },
         "first" => Call::First { desk: w.desk("D")?, mark: w.mark("A.N")?, of: w.desk("E")? },
         "frame" => Call::Frame { desk: w.desk("D")?, mark: w.mark("A.N")?, lent: w.count_or_most(LARGEST_FRAME)? },
         "list" => Call::List { desk: w.desk("D")? },
@@ -117,6 +119,9 @@ mod tests {
             ("relate 1 1.1", "B.M is missing"),
             ("why 1 1.1", "B.M is missing"),
             ("why 1 1.1 1.2 all", "`all` is not a decimal number"),
+            ("pairs", "D is missing"),
+            ("pairs 1 all", "`all` is not a decimal number"),
+            ("pairs 1 512 1", "`1` is one word too many"),
             ("hand 1 11", "`11` is not a mark's name like 1.2"),
             ("hand1 1", "A.N is missing"),
             ("write2 1 1 0 1 2 3", "PAST is missing"),
