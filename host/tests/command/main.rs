@@ -5,7 +5,7 @@ use std::process::{Command, Output, Stdio};
 const EXAMPLES: &str = concat!(env!("CARGO_MANIFEST_DIR"), "/../examples");
 
 /// The calls that the benchmark times and bounds.
-const TIMED: [&str; 10] = [
+const TIMED: [&str; 11] = [
     "Receive",
     "Mark",
     "Relate, all pairs",
@@ -14,6 +14,7 @@ const TIMED: [&str; 10] = [
     "Evidence, apart",
     "Evidence, short",
     "Evidence, long",
+    "Pair tables",
     "Frame again",
     "Junk frame",
 ];

@@ -107,12 +107,12 @@ pub const BENCH: &str = "\
 Makes one history (500 marks, 16 desks) by a seeded generator, and takes every call through it with the proved engine and
 with two others in the same run:
   (a) the same plan in plain Rust, by reference, with full counts and past count kept per mark and, for Relate, an index
-      of names;
+      of names; Pair tables ask the full counts of each pair once;
   (b) a BTreeMap vector clock for each mark, looked up by name and compared by partial_cmp.
 Evidence is timed apart for concurrent pairs, for those with a short chain, of at most eight marks, and for those with a
 longer one, all pairs of a kind in a drawn order; beside it Relate of the same pairs, and of each two neighbours in their
-chains (links). A junk frame is one that Receive refuses with 2 to 6. These and Frame again are left out for (b), whose
-frames are others.
+chains (links). A junk frame is one that Receive refuses with 2 to 6. These, Pair tables and Frame again are left out for
+(b), whose frames are others.
 Prints medians of N rounds (5 if left out) as times a call and as ratios, their growth from 125 to 250 to 500 marks, the
 bytes on the wire beside full counts, and the bounds. Times depend on the machine and its load; the ratios are taken in
 one run.

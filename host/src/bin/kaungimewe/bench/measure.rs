@@ -4,13 +4,13 @@ use std::time::Instant;
 
 use kaungimewe::peers::clocks::FRAME;
 use kaungimewe::peers::{Engine, Stamped};
-use kaungimewe::{MarkId, DESKS, LARGEST_FRAME, PLACES};
+use kaungimewe::{MarkId, DESKS, LARGEST_FRAME, PAIR_COUNTS, PLACES};
 
 use super::junk::junk;
 use super::kinds;
 use super::load::{Load, Step};
 
-/// The calls that are timed. The last ten are of the documents' frames, and only engines that have these are asked.
+/// The calls that are timed. The last eleven are of the documents' frames, and only engines that have these are asked.
 #[derive(Clone, Copy)]
 pub enum Call {
     Receive,
@@ -26,12 +26,13 @@ pub enum Call {
     EvidenceLong,
     RelateLong,
     LinksLong,
+    PairTables,
     FrameAgain,
     JunkFrame,
 }
 
 /// Their names, in the same order.
-pub const CALLS: [&str; 15] = [
+pub const CALLS: [&str; 16] = [
     "Receive",
     "Mark",
     "Relate, all pairs",
@@ -45,11 +46,13 @@ pub const CALLS: [&str; 15] = [
     "Evidence, long",
     "Relate, long",
     "Links, long",
+    "Pair tables",
     "Frame again",
     "Junk frame",
 ];
 
-/// Calls that are too short to be timed alone: so many runs, and so many passes over the junk frames in each.
+/// Calls that are made of no one mark or are too short to be timed alone: so many runs, and so many passes over the junk
+/// frames in each.
 const RUNS: usize = 20;
 const PASSES: usize = 100;
 
@@ -114,6 +117,7 @@ pub fn measure_stamped<E: Stamped>(load: &Load) -> Measured {
     let mut replayed = replay::<E>(load, &mut measured);
     query(&replayed, &mut measured);
     evidence(&replayed, &mut measured);
+    pair_tables(&replayed, &mut measured);
     frames_again(&replayed, &mut measured);
     receive_junk(&mut replayed, &mut measured);
     measured
@@ -161,6 +165,17 @@ fn evidence<E: Stamped>(Replayed { desk, names, .. }: &Replayed<E>, measured: &m
     let (samples, sum) = kinds::measure(desk, names);
     measured.samples.extend(samples);
     measured.stamped_sum += sum;
+}
+
+/// Pair tables, of the whole desk in each run. Each count is weighed by its place, so that equal sums mean equal tables.
+fn pair_tables<E: Stamped>(Replayed { desk, .. }: &Replayed<E>, measured: &mut Measured) {
+    let mut tables = Samples::of(1);
+    let mut out = vec![0; PAIR_COUNTS];
+    for _ in 0..RUNS {
+        tables.time(|| desk.pair_tables(black_box(&mut out)).expect("enough is lent"));
+        measured.stamped_sum += (1..).zip(&out).map(|(place, &count)| place * u64::from(count)).sum::<u64>();
+    }
+    measured.samples.push(tables);
 }
 
 /// Frame again, of all marks in each run.

@@ -19,7 +19,7 @@ const SIZES: [usize; 3] = [125, 250, 500];
 /// A check runs the benchmark so many times.
 const CHECKED: usize = 3;
 
-/// Nanoseconds a call, in the order of `CALLS`; the clocks lack the last ten.
+/// Nanoseconds a call, in the order of `CALLS`; the clocks lack the last eleven.
 type Times = Vec<f64>;
 
 /// What is reported: medians over all rounds, and the bytes of all frames.

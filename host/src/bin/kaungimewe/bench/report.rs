@@ -51,7 +51,7 @@ fn times(text: &mut String, medians: &Medians) -> std::fmt::Result {
         text,
         "  (a) the same plan in plain Rust, by reference, with full counts and past count kept per mark and, for Relate"
     )?;
-    writeln!(text, "      and Evidence, an index of names")?;
+    writeln!(text, "      and Evidence, an index of names; Pair tables ask the full counts of each pair once")?;
     writeln!(text, "  (b) a BTreeMap vector clock for each mark, looked up by name, compared by partial_cmp\n")
 }
 
