@@ -2,6 +2,7 @@
 mod calls;
 mod chains;
 mod clicks;
+mod counts;
 mod editions;
 mod frames;
 mod limits;

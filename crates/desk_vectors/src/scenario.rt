@@ -1,6 +1,7 @@
 // The paper's scenario through the calls. A mark's frame stands in the slot of its name: 1.2 in slot 12.
 ghost use Rattle.desk.specs.StateOf.{Kept};
 use crate::calls;
+use crate::counts;
 use crate::frames;
 use crate::show;
 use desk::Desk;
@@ -181,6 +182,7 @@ pub fn run() {
     apart(after);
     first_apart(after);
     evidence(after);
+    counts::run(after);
     again(after, frames);
     lent(after);
 }
