@@ -221,9 +221,7 @@ pub extern "C" fn kaungimewe_pair_tables_lent<'a>(
     requires { ⌜ SomeDesk (tablesLent count desks numbers stamps) ⌝ }
     ensures { λ r. ⌜ PairTablesExport (tablesLent count (desks .entry) (numbers .entry) (stamps .entry)) (now (out .entry)) (now (out .exit)) r ⌝ }
 {
-    numbers::counted(tables::pair_tables(
-        desks, numbers, stamps, count, out,
-    ))
+    numbers::counted(tables::pair_tables(desks, numbers, stamps, count, out))
 }
 
 #[no_mangle]

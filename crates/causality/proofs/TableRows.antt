@@ -1,12 +1,12 @@
 -- Tables as lists, one row behind another: where an entry stands, and that the entries settle the list. Assumes nothing.
-use Prim.Native.Nat.{_*_, _+_, _-_, _<_, _≤_, suc, zero, ℕ}
+use Prim.Native.Nat.{_*_, _+_, _-_, _<_, suc, zero, ℕ}
 use lib.Dec.{ltb, ltb→lt, nltb→le}
 use lib.ListN.{List·getD-append, getD, length, length-append}
 use lib.Seq.{ext-getD, getD-append-add}
-use mathlib.Core.List.{List, _++_}
+use mathlib.Core.List.{List}
 use mathlib.Core.Logic.{inl, inr}
 use mathlib.Core.Path.{_∙_, _≡_, ap, refl, subst, sym}
-use native.Mathlib.Nat.{add-assoc, add-comm, mul-comm, mul-le-mul-right, suc-mul, zero-mul}
+use native.Mathlib.Nat.{mul-comm, mul-le-mul-right, suc-mul, zero-mul}
 use native.Mathlib.Omega.{arith}
 use Rattle.causality.specs.Tables.{EntriesAt, tableRow, tableRows, tableSize, tables}
 use Rattle.causality.proofs.Logic.{split}

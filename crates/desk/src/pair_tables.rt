@@ -9,13 +9,7 @@ impl Desk {
         requires { ⌜ Kept self ⌝ }
         ensures { λ r. ⌜ PairTablesPromise self (now (out .entry)) (now (out .exit)) r ⌝ }
     {
-        let answer = tables::pair_tables(
-            &self.desks,
-            &self.numbers,
-            &self.stamps,
-            self.count,
-            out,
-        );
+        let answer = tables::pair_tables(&self.desks, &self.numbers, &self.stamps, self.count, out);
         CountedDesk {
             desk: self,
             answer: answer,

@@ -1,7 +1,7 @@
 -- The past of the mark at a place, as a row that is traced from the row of its stamp. n: how many desks. Assumes nothing.
 use Prim.Native.Nat.{_*_, _+_, _-_, _<_, _≤_, suc, ℕ}
 use lib.Dec.{leb, not-T}
-use lib.ListN.{getD, replicate}
+use lib.ListN.{getD}
 use mathlib.Core.Bool.{Bool, false}
 use mathlib.Core.List.{List}
 use mathlib.Core.Path.{_∙_, _≡_, ap, refl, sym}
@@ -17,10 +17,9 @@ use Rattle.causality.proofs.RowLaws.{row-of-entries, under, under-trace}
 use Rattle.causality.proofs.Rows.{rowOf, trace}
 use Rattle.rows.specs.View.{Carried, Named, markAt, nameAt, rowAt, rowFn, view}
 use Rattle.rows.proofs.Arrays.{sound-below}
-use Rattle.rows.proofs.ByRows.{row-at, under-cong}
-use Rattle.rows.proofs.Places.{has-at, named-has, not-before, precedes-there}
-use Rattle.rows.proofs.RowSteps.{named-at, named-desks, named-less}
-use Rattle.rows.proofs.Slots.{zeros}
+use Rattle.rows.proofs.ByRows.{under-cong}
+use Rattle.rows.proofs.Places.{has-at, not-before, precedes-there}
+use Rattle.rows.proofs.RowSteps.{named-at, named-desks}
 use Rattle.queries.proofs.Reaching.{no-row, reached}
 
 module _ (n : ℕ) (ds ns : List ℕ) (bs : ℕ → Carried) (ss : List ℕ) where

@@ -1,14 +1,13 @@
 -- The counts of a table by row and column, after a row of counts is added to a column or a row. n: how many desks. Assumes nothing.
-use Prim.Native.Nat.{_*_, _+_, _<_, _≤_, suc, ℕ}
-use lib.Dec.{T, T-not, eqb, eqb-refl, eqb→eq, ltb, ltb→lt, nltb→le, not-T}
+use Prim.Native.Nat.{_*_, _+_, _<_, suc, ℕ}
+use lib.Dec.{T-not, eqb, eqb-refl, eqb→eq, ltb, ltb→lt, nltb→le}
 use lib.ListN.{getD}
-use mathlib.Core.Bool.{Bool, cond, false, not, true}
+use mathlib.Core.Bool.{Bool, cond, false, true}
 use mathlib.Core.List.{List}
 use mathlib.Core.Logic.{inl, inr}
-use mathlib.Core.Path.{_∙_, _≡_, ap, refl, subst, sym}
-use native.Mathlib.Nat.{mul-le-mul-right, mul-one, suc-mul}
+use mathlib.Core.Path.{_≡_, ap, refl, subst, sym}
+use native.Mathlib.Nat.{mul-le-mul-right, suc-mul}
 use native.Mathlib.Omega.{arith}
-use Rattle.causality.specs.Tables.{tableSize}
 use Rattle.causality.proofs.Logic.{split}
 use Rattle.tables.specs.Steps.{Added, stepped}
 

@@ -1,5 +1,5 @@
 -- The tables of the marks passed, mark by mark. n: how many desks. Assumes nothing.
-use Prim.Native.Nat.{_*_, _+_, _-_, _<_, _≤_, suc, zero, ℕ}
+use Prim.Native.Nat.{_*_, _+_, _-_, _<_, _≤_, suc, ℕ}
 use lib.Dec.{T-not, eqb, eqb-refl, eqb→eq, eqb·suc-suc}
 use lib.ListN.{getD, length, length-replicate, length-set, replicate, set}
 use lib.Seq.{getD-set-other, getD-set-same}

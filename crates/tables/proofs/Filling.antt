@@ -3,13 +3,13 @@ use Prim.Native.Nat.{_*_, _+_, _<_, _≤_, ℕ}
 use borrow.Author.Tests.{le-ltb, lt-ltb}
 use lib.ListN.{drop, length, length-append, take}
 use lib.Seq.{drop-append-add, drop-drop, paste, take-all, take-at}
-use mathlib.Core.List.{List, [], _++_}
+use mathlib.Core.List.{List, _++_}
 use mathlib.Core.Path.{_∙_, _≡_, ap, refl, sym}
 use native.Mathlib.Nat.{zero-add}
 use native.Mathlib.Omega.{arith}
 use Rattle.frame.specs.Answer.{gives, refused}
 use Rattle.frame.specs.Frame.{overIf}
-use Rattle.causality.specs.Tables.{pairTables, tableRows, tableSize, tables}
+use Rattle.causality.specs.Tables.{pairTables, tableSize, tables}
 use Rattle.causality.proofs.TableRows.{rows-are}
 use Rattle.tables.specs.Steps.{Holds}
 

@@ -72,11 +72,12 @@ fn count_pairs<'a>(
     let mut q = 0;
     while q < count {
         let d = desks[q] as usize - 1;
+        let row = d * WIDTH;
         let past = past(desks, numbers, stamps, Place(q));
         let rest = less(&made, &past);
         add(&mut before, d, WIDTH, &past);
         add(&mut apart, d, WIDTH, &rest);
-        add(&mut apart, d * WIDTH, 1, &rest);
+        add(&mut apart, row, 1, &rest);
         made[d] += 1;
         q += 1;
     }

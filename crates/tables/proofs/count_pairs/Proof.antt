@@ -1,20 +1,17 @@
 -- `count_pairs` meets its contract. Invariant: the tables are those of the marks passed, and how many of each desk there are is kept.
 use Prim.Native.Nat.{_+_, _-_, _<_, _≤_, suc, ℕ}
-use lib.ListN.{getD, replicate}
-use mathlib.Core.List.{List}
+use lib.ListN.{getD}
 use mathlib.Core.Path.{_∙_, _≡_, ap, sym}
 use native.Mathlib.Numerals.{sub-one}
 use borrow.Author.Needs.{needs}
 use native.Mathlib.Omega.{arith}
 use Rattle.causality.specs.Evidence.{inPast}
 use Rattle.causality.specs.Marks.{places}
-use Rattle.causality.specs.Tables.{tableSize}
 use Rattle.causality.proofs.Reach.{Sound}
 use Rattle.queries.specs.Lent.{OfMarks}
 use Rattle.rows.specs.View.{nameAt, view, width}
 use Rattle.rows.proofs.Arrays.{sound-below}
 use Rattle.rows.proofs.RowSteps.{named-at, named-less}
-use Rattle.rows.proofs.Slots.{zeros}
 use Rattle.tables.proofs.Counting.{CountedTo, counted-all, counted-more, counted-none, made-small, past-within, room-before, room-column, room-row}
 use Rattle.tables.proofs.count_pairs.Statement.{statement}
 use Rattle.tables.proofs.count_pairs.Tie as tie
@@ -115,11 +112,11 @@ count-pairs-spec =
     (λ c. search needs)
     (λ c. let r = in-range (c .before) in record { fits = omega arith })
     (λ c. in-range (c .before) .0)
+    (λ c. let x = index (c .before) .0 in record { fits = omega arith })
     (λ c κs. let i = c .before in (in-range i .2, named-less width _ _ _ (i .before .before .pre .named) (let t = i .loop-test .taken in omega arith)))
     less-requires
     add-requires
     add-requires-2
-    (λ c. let x = index (c .before .before .before .before .before .before .before .before .before .before .before .before) .0 in record { fits = omega arith })
     add-requires-3
     (λ c. let x = index (before-end c .before .before) .0 in record { fits = omega arith })
     (λ c. index (before-end c .before .before) .0)

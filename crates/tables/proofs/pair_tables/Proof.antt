@@ -5,7 +5,6 @@ use lib.ListN.{length}
 use lib.Seq.{paste}
 use mathlib.Core.List.{List}
 use borrow.Author.Needs.{needs}
-use native.Mathlib.Omega.{arith}
 use Rattle.causality.specs.Tables.{tableSize}
 use Rattle.rows.specs.View.{width}
 use Rattle.tables.proofs.Filling.{enough, tables-pasted, too-short}
