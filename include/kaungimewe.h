@@ -14,10 +14,10 @@
  *   marks beside it: their marks would share names.
  * - No pointer is NULL, also where its length is 0. What a call writes to overlaps nothing else that it is lent.
  *
- * A desk has 31,672 bytes; only kaungimewe_new gives one by value and took 62 KiB of stack when measured. Apart and
- * Evidence took under 5 KiB, every other call under 1 KiB (host/stack.c measures them). No call allocates, blocks, or
- * keeps anything between calls. Every call may be made from any thread; while one thread marks or receives at a desk,
- * no other may use that desk.
+ * A desk has 31,672 bytes; only kaungimewe_new gives one by value and took 62 KiB of stack when measured. Apart,
+ * Evidence and Pair tables took under 5 KiB, every other call under 1 KiB (host/stack.c measures them). No call
+ * allocates, blocks, or keeps anything between calls. Every call may be made from any thread; while one thread marks or
+ * receives at a desk, no other may use that desk.
  *
  * Link with target/staticlib/libabi.a, which `rt staticlib abi` proves and writes.
  */
