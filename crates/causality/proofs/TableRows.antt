@@ -1,9 +1,9 @@
 -- Tables as lists, one row behind another: where an entry stands, and that the entries settle the list. Assumes nothing.
-use Prim.Native.Nat.{_*_, _+_, _-_, _<_, suc, zero, ℕ}
+use Prim.Native.Nat.{_*_, _+_, _-_, _<_, _≤_, suc, zero, ℕ}
 use lib.Dec.{ltb, ltb→lt, nltb→le}
 use lib.ListN.{List·getD-append, getD, length, length-append}
 use lib.Seq.{ext-getD, getD-append-add}
-use mathlib.Core.List.{List}
+use mathlib.Core.List.{List, _++_}
 use mathlib.Core.Logic.{inl, inr}
 use mathlib.Core.Path.{_∙_, _≡_, ap, refl, subst, sym}
 use native.Mathlib.Nat.{mul-comm, mul-le-mul-right, suc-mul, zero-mul}
@@ -60,21 +60,36 @@ module _ (N : ℕ) where
   pub cell-in : (i j : ℕ) → i < N → j < N → i * N + j < tableSize N
   cell-in i j hi hj = let a = suc-mul i N in let b = mul-le-mul-right {m = suc i} {n = N} N (omega arith) in omega arith
 
-  -- "entry (i, j) at 16·(i − 1) + j − 1 of its table", "the first table first".
-  pub entries-at : (first second : ℕ → ℕ → ℕ) → EntriesAt N first second (tables N first second)
-  unfolding tables
-  entries-at first second = record {
-    in-first = λ i j a b c d.
-        let m = mul-comm N (i - 1) in
-        let k = cell-in (i - 1) (j - 1) (omega arith) (omega arith) in
-        let l = rows-length N first in
+  -- "entry (i, j) at 16·(i − 1) + j − 1 of its table", "the first table first", whatever the run has beyond.
+  module _ (first second : ℕ → ℕ → ℕ) (rest : List ℕ) where
+    abbrev one : List ℕ
+    one = tableRows N N first
+
+    abbrev two : List ℕ
+    two = tableRows N N second
+
+    in-one : (k : ℕ) → k < tableSize N → getD (one ++ two ++ rest) k 0 ≡ getD one k 0
+    in-one k h =
+        let a = rows-length N first in
+        let b = length-append one two in
+        List·getD-append (one ++ two) rest 0 k (omega arith) ∙ List·getD-append one two 0 k (omega arith)
+
+    in-two : (k : ℕ) → k < tableSize N → getD (one ++ two ++ rest) (tableSize N + k) 0 ≡ getD two k 0
+    in-two k h =
+        let a = rows-length N first in
+        let b = rows-length N second in
+        let c = length-append one two in
+        List·getD-append (one ++ two) rest 0 (tableSize N + k) (omega arith) ∙ ap (λ (n : ℕ). getD (one ++ two) (n + k) 0) (sym a) ∙ getD-append-add one two k 0
+
+    at-desks : (f : ℕ → ℕ → ℕ) (i j : ℕ) → 1 ≤ i → i ≤ N → 1 ≤ j → j ≤ N → (N * (i - 1) + (j - 1) < tableSize N) × (getD (tableRows N N f) (N * (i - 1) + (j - 1)) 0 ≡ f i j)
+    at-desks f i j a b c d =
         let e : suc (i - 1) ≡ i = omega arith in
         let g : suc (j - 1) ≡ j = omega arith in
-        rw m (List·getD-append (tableRows N N first) (tableRows N N second) 0 ((i - 1) * N + (j - 1)) (omega arith) ∙ rows-at N first (i - 1) (j - 1) (omega arith) (omega arith) ∙ rw (e, g) refl);
-    in-second = λ i j a b c d.
-        let m = mul-comm N (i - 1) in
-        let l = rows-length N first in
-        let e : suc (i - 1) ≡ i = omega arith in
-        let g : suc (j - 1) ≡ j = omega arith in
-        rw (m, ← l) (getD-append-add (tableRows N N first) (tableRows N N second) ((i - 1) * N + (j - 1)) 0 ∙ rows-at N second (i - 1) (j - 1) (omega arith) (omega arith) ∙ rw (e, g) refl);
-  }
+        rw (mul-comm N (i - 1)) (cell-in (i - 1) (j - 1) (omega arith) (omega arith), rows-at N f (i - 1) (j - 1) (omega arith) (omega arith) ∙ rw (e, g) refl)
+
+    pub entries-at : EntriesAt N first second (tables N first second ++ rest)
+    unfolding tables
+    entries-at = record {
+      in-first = λ i j a b c d. let x = at-desks first i j a b c d in in-one (N * (i - 1) + (j - 1)) (x .0) ∙ x .1;
+      in-second = λ i j a b c d. let x = at-desks second i j a b c d in in-two (N * (i - 1) + (j - 1)) (x .0) ∙ x .1;
+    }

@@ -13,6 +13,7 @@ use Rattle.causality.specs.State.{Mark, State, concurrent, ids, precedes
 
 -- PAIRS
 
+-- The marks of desk d, and f of each mark, added up.
 abbrev pub ofDesk : ℕ → List MarkId → List MarkId
 ofDesk d marks = keep (λ a. eqb d (a .desk)) marks
 
@@ -63,7 +64,7 @@ pairTablesCounts N st lent =
 
 -- WHAT HOLDS
 
--- Where the entries of a run stand that holds two tables of desks 1 to N.
+-- Where the entries of two tables of desks 1 to N stand in a run that starts with them.
 pub record EntriesAt (N : ℕ) (first second : ℕ → ℕ → ℕ) (counts : List ℕ) : Type 0 where
   pub in-first : (i j : ℕ) → 1 ≤ i → i ≤ N → 1 ≤ j → j ≤ N → getD counts (N * (i - 1) + (j - 1)) 0 ≡ first i j
   pub in-second : (i j : ℕ) → 1 ≤ i → i ≤ N → 1 ≤ j → j ≤ N → getD counts (tableSize N + (N * (i - 1) + (j - 1))) 0 ≡ second i j

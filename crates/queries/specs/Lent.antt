@@ -1,11 +1,12 @@
 -- What lent arrays of executed marks say: of every desk that may lend them.
 use mathlib.Core.List.{List}
-use Prim.Native.Nat.{ℕ}
+use Prim.Native.Nat.{ℕ, _≤_}
+use Rattle.causality.specs.Marks.{places}
 use Rattle.causality.specs.State.{Mark, State}
 use Rattle.causality.proofs.Reach.{Sound}
 use Rattle.executed.specs.Arrays.{Lending}
 use Rattle.executed.specs.Rows.{Lent}
-use Rattle.rows.specs.View.{Carried, view, width}
+use Rattle.rows.specs.View.{Carried, Named, view, width}
 
 -- Beside what is lent (count, desks, numbers, stamps) stand the desk's own number, its boxes and its waiting marks, which no query reads.
 abbrev pub lent : ℕ → List ℕ → List ℕ → List ℕ → ℕ → (ℕ → Carried) → List Mark → State
@@ -15,6 +16,13 @@ lent count ds ns ss own bs waiting = record { own = own; executed = view width c
 pub record HasLent (ds ns ts ls bf : List ℕ) : Type 0 where
   pub count : ℕ
   pub marks : Lent count ds ns ts ls bf
+
+-- These arrays (desks, numbers, stamps) are those of so many marks.
+pub record HasMarks (count : ℕ) (ds ns ss : List ℕ) : Type 0 where
+  pub few : count ≤ places
+  pub named : Named width count ds
+  pub carried : ℕ → Carried
+  pub sound : Sound (view width count ds ns carried ss)
 
 -- P holds of every list of so many executed marks that these arrays (desks, numbers, stamps) may be. n: how many desks.
 abbrev pub OfMarks : ℕ → ℕ → List ℕ → List ℕ → List ℕ → (List Mark → Type 0) → Type 0

@@ -4,21 +4,12 @@ use mathlib.Core.Path.{_≡_}
 use Prim.Native.Nat.{ℕ, suc, _+_, _-_, _*_, _≤_, _<_}
 use lib.ListN.{length, getD}
 use Rattle.frame.specs.Frame.{overIf}
-use Rattle.causality.specs.Marks.{places}
 use Rattle.causality.specs.Meaning.{counting}
 use Rattle.causality.specs.Tables.{countLimit, pairTables, pairsApart, pairsBefore, tableSize, tables}
 use Rattle.causality.specs.declared.Counted.{Counted}
-use Rattle.causality.proofs.Reach.{Sound}
 use Rattle.queries.specs.Lent.{OfMarks}
-use Rattle.rows.specs.View.{Carried, Named, view, width}
+use Rattle.rows.specs.View.{width}
 use Rattle.tables.specs.declared.Tables.{Tables}
-
--- Arrays (desks, numbers, stamps) of so many marks.
-pub record HasMarks (count : ℕ) (ds ns ss : List ℕ) : Type 0 where
-  pub few : count ≤ places
-  pub named : Named width count ds
-  pub carried : ℕ → Carried
-  pub sound : Sound (view width count ds ns carried ss)
 
 -- No count of a row is above that of another.
 abbrev pub AtMost : List ℕ → List ℕ → Type 0
