@@ -25,7 +25,7 @@ use Rattle.rows.proofs.Slots.{zeros}
 use Rattle.tables.specs.Steps.{Added, Holds, RoomFor, stepped}
 use Rattle.tables.proofs.Cells.{column-added, row-added}
 
--- Desk d + 1 is that desk if d is its index.
+-- The desk of index j is desk e, whose index is d, if j is d.
 same-desk : (j d e : ℕ) → e ≡ suc d → eqb (suc j) e ≡ eqb j d
 same-desk j d e q = ap (eqb (suc j)) q ∙ eqb·suc-suc j d
 

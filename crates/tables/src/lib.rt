@@ -1,4 +1,4 @@
-// The tables of pairs over lent arrays: of each two desks how many pairs of their marks are apart, and in how many the first precedes.
+// The tables of pairs over lent arrays, counted by the pasts of the marks.
 ghost use mathlib.Core.Path.{_≡_};
 ghost use Prim.Native.Nat.{_+_, _≤_, _<_};
 ghost use lib.ListN.{length};
@@ -17,6 +17,7 @@ use rows::WIDTH;
 // Counts in a table: one for each two desks, row behind row.
 pub const CELLS: usize = WIDTH * WIDTH;
 
+// Of each two desks how many pairs of their marks are apart, and in how many that of the first precedes.
 pub struct Tables {
     pub apart: [u32; CELLS],
     pub before: [u32; CELLS],
@@ -56,8 +57,8 @@ fn add<'a>(table: &mut [u32; CELLS], first: usize, step: usize, row: &'a [u16; W
     }
 }
 
-// Takes the marks by place. Of the marks before it, those of its past precede it, and the others are apart from it, in either order of the pair.
-// At most so many marks are followed for a past as stand before, then each desk is added.
+// Takes the marks by place: of those before a mark the ones of its past precede it, and the others are apart from it, in either order of the pair.
+// For a past each mark before is examined once, then each desk's counts are added.
 fn count_pairs<'a>(
     desks: &'a [u8; PLACES],
     numbers: &'a [u16; PLACES],

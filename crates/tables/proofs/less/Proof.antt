@@ -18,32 +18,8 @@ abbrev μ-loop : tie.MeasureT-loop
 loop-holds : tie.Need-loop-holds Inv-loop μ-loop
 loop-holds c = passed-none width _ _ (search needs)
 
-mul-rest : tie.Need-mul-rest Inv-loop μ-loop
-mul-rest c = search needs
-
-element-copy-out-rest : tie.Need-element-copy-out-rest Inv-loop μ-loop
-element-copy-out-rest c = search needs
-
-mul-rest-2 : tie.Need-mul-rest-2 Inv-loop μ-loop
-mul-rest-2 c = search needs
-
-element-copy-out-rest-2 : tie.Need-element-copy-out-rest-2 Inv-loop μ-loop
-element-copy-out-rest-2 c = search needs
-
 sub-rest : tie.Need-sub-rest Inv-loop μ-loop
 sub-rest c = let i = c .before .before in let h = i .before .before .pre (i .before .loop .j) (i .loop-test .taken) in omega arith
-
-mul-rest-3 : tie.Need-mul-rest-3 Inv-loop μ-loop
-mul-rest-3 c = search needs
-
-array-write-rest : tie.Need-array-write-rest Inv-loop μ-loop
-array-write-rest c = search needs
-
-add-j : tie.Need-add-j Inv-loop μ-loop
-add-j c = search needs
-
-loop-less : tie.Need-loop-less Inv-loop μ-loop
-loop-less c = search needs
 
 loop-again : tie.Need-loop-again Inv-loop μ-loop
 loop-again c = let l = c .before .before .before in passed-set width _ _ _ _ _ _ (l .loop .inv) (search needs) refl (λ e. refl)
@@ -58,14 +34,14 @@ less-spec =
     Inv-loop
     μ-loop
     loop-holds
-    mul-rest
-    element-copy-out-rest
-    mul-rest-2
-    element-copy-out-rest-2
+    (λ c. search needs)
+    (λ c. search needs)
+    (λ c. search needs)
+    (λ c. search needs)
     sub-rest
-    mul-rest-3
-    array-write-rest
-    add-j
-    loop-less
+    (λ c. search needs)
+    (λ c. search needs)
+    (λ c. search needs)
+    (λ c. search needs)
     loop-again
     returns)
