@@ -278,14 +278,17 @@ spoken = receives (marks followed) (f32 ∷ [])
 abbrev foundFading : List (List ℕ)
 foundFading = entries (writes followed) ∷ entries (writes spoken) ∷ entries (writes (marks spoken)) ∷ []
 
--- A run of so many counts, each of them 7, after the call.
+-- The order's tables are of sixteen desks. A run of so many counts, each of them 7, after the call.
+abbrev sixteen : ℕ
+sixteen = 16
+
 abbrev tabledIn : ℕ → List ℕ
-tabledIn lent = pairTablesCounts desks desk3 (replicate lent 7)
+tabledIn lent = pairTablesCounts sixteen desk3 (replicate lent 7)
 
 abbrev foundTabled : List (List ℕ)
 foundTabled =
     tableRows 4 4 (pairsApart (desk3 .executed)) ∷ tableRows 4 4 (pairsBefore (desk3 .executed))
-    ∷ (value (pairTables desks 511) ∷ value (pairTables desks 512) ∷ value (pairTables desks 600) ∷ [])
+    ∷ (value (pairTables sixteen 511) ∷ value (pairTables sixteen 512) ∷ value (pairTables sixteen 600) ∷ [])
     ∷ (getD (tabledIn 600) 18 0 ∷ getD (tabledIn 600) 291 0 ∷ getD (tabledIn 600) 511 0 ∷ getD (tabledIn 600) 512 0 ∷ getD (tabledIn 600) 599 0 ∷ [])
     ∷ (getD (tabledIn 511) 0 0 ∷ getD (tabledIn 511) 510 0 ∷ [])
     ∷ []
