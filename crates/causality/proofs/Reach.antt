@@ -21,7 +21,7 @@ use Rattle.causality.proofs.Cases.{Arrives, ReceiveCase, executes, rece
 use Rattle.causality.proofs.Lists.{Picked, absent-all, all-at, all-map, any-cong, any-find, any-of, find-has, has-append, has-keep, has-self, ids-append, ids-length, keep-has, lowest-picked, nor-fst, nor-snd, without-all}
 use Rattle.causality.proofs.Logic.{T→eq, and-fst, and-intro, bool-ext, nT→eq, or-cases, or-inl, or-inr, same-refl, same→eq, split}
 use Rattle.causality.proofs.Numbers.{ready-next}
-use Rattle.causality.proofs.Past.{Counted, Good, Standing, fresh-of, has-heads, head-in, head-out, heads-has, prefix-has, prefix-le, top-exists}
+use Rattle.causality.proofs.Past.{Counted, Good, Standing, fresh-of, has-heads, head-in, head-out, heads-has, no-self, prefix-has, prefix-le, top-exists}
 use Rattle.causality.proofs.Reckoning.{among-le, counted-once, keep-once, reckoning-of, reckoning-past}
 
 pub record Follows (m : Mark) (older : List Mark) : Type 0 where
@@ -142,6 +142,9 @@ local-precedes l s a b = bool-ext (has a (local l b)) (precedes l a b) (λ t. (k
 
 pub local-hist : (l : List Mark) → Sound l → Standing (local l) l
 local-hist l s = sound-hist (local l) l s (λ a b t. local-precedes l s a b)
+
+pub precedes-self : (l : List Mark) → Sound l → (a : MarkId) → T (precedes l a a) → ⊥
+precedes-self l s a t = no-self (local l) l (local-hist l s) a ((precedes-listed l s a a t) .0) (rw (local-precedes l s a a) t)
 
 -- Fewer marks than are behind it precede a mark, or as many; and it is not reckoned anew as the list grows.
 pub reckoning-le : (m : Mark) (older : List Mark) → Sound (m ∷ older) → reckoning (m ∷ older) (m .id) ≤ length older

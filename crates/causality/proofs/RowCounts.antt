@@ -13,8 +13,8 @@ use Rattle.causality.specs.State.{Mark, ids, precedes, reckoning}
 use Rattle.causality.proofs.Apart.{trace-counts}
 use Rattle.causality.proofs.Lists.{has-self, keep-cong}
 use Rattle.causality.proofs.Logic.{nT→eq, or-inr, split}
-use Rattle.causality.proofs.Past.{Counted, no-self, prefix-le, tally-le, tally-same}
-use Rattle.causality.proofs.Reach.{Sound, local, local-hist, local-precedes, sound-counted}
+use Rattle.causality.proofs.Past.{Counted, prefix-le, tally-le, tally-same}
+use Rattle.causality.proofs.Reach.{Sound, local, local-hist, local-precedes, precedes-self, sound-counted}
 use Rattle.causality.proofs.RowLaws.{under, under-trace}
 use Rattle.causality.proofs.Rows.{row-find, rowOf, trace}
 
@@ -132,7 +132,7 @@ reckoning-row n m older s f = rw (nT→eq (precedes (m ∷ older) (m .id) (m .id
     agree a t = trace-counts m older s a ((prefix-le (ids older) (sound-counted older (s .1)) a t) .0)
 
     alone : T (not (precedes (m ∷ older) (m .id) (m .id)))
-    alone = not-T (precedes (m ∷ older) (m .id) (m .id)) (λ t. no-self (local (m ∷ older)) (m ∷ older) (local-hist (m ∷ older) s) (m .id) (has-self (m .id) (ids older)) (rw (local-precedes (m ∷ older) s (m .id) (m .id)) t))
+    alone = not-T (precedes (m ∷ older) (m .id) (m .id)) (precedes-self (m ∷ older) s (m .id))
 
 -- A row that covers the tally is final: every older mark is then in the past.
 pub trace-final : (l : List Mark) → Sound l → (r : ℕ → ℕ) → ((d : ℕ) → tally d (ids l) ≤ r d) → (d : ℕ) → trace l r d ≡ r d

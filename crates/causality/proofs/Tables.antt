@@ -18,8 +18,8 @@ use Rattle.causality.proofs.EvidenceLaws.{tally-keep}
 use Rattle.causality.proofs.Lists.{has-self, keep-cong, tally-length}
 use Rattle.causality.proofs.Logic.{T→eq, nT→eq, or-inr, same-refl, same→eq, split}
 use Rattle.causality.proofs.Numbers.{own-past}
-use Rattle.causality.proofs.Past.{fresh-of, no-self, prefix-le}
-use Rattle.causality.proofs.Reach.{Sound, local, local-hist, local-precedes, not-new, precedes-listed, precedes-old, sound-counted}
+use Rattle.causality.proofs.Past.{fresh-of, prefix-le}
+use Rattle.causality.proofs.Reach.{Sound, local, local-hist, local-precedes, not-new, precedes-listed, precedes-old, precedes-self, sound-counted}
 
 -- COUNTING PAIRS
 
@@ -102,12 +102,9 @@ module _ (m : Mark) (older : List Mark) (s : Sound (m ∷ older)) where
   -- It precedes none.
   new-last : (y : MarkId) → precedes (m ∷ older) (m .id) y ≡ false
   new-last y = nT→eq (precedes (m ∷ older) (m .id) y) (not-T (precedes (m ∷ older) (m .id) y) (λ t. elim (split (same y (m .id))) [
-    | inl u ↦ alone (rw (same→eq y (m .id) u) at t)
+    | inl u ↦ precedes-self (m ∷ older) s (m .id) (rw (same→eq y (m .id) u) at t)
     | inr u ↦ fresh-of (m .id) (ids older) (sound-counted (m ∷ older) s) (precedes-listed older (s .1) (m .id) y (rw (precedes-old m older (m .id) y u) at t) .0)
   ]))
-    where
-      alone : T (precedes (m ∷ older) (m .id) (m .id)) → ⊥
-      alone t = no-self (local (m ∷ older)) (m ∷ older) (local-hist (m ∷ older) s) (m .id) (has-self (m .id) (ids older)) (rw (local-precedes (m ∷ older) s (m .id) (m .id)) t)
 
   old-precedes : (y x : MarkId) → T (has y (ids older)) → T (has x (ids older)) → precedes (m ∷ older) y x ≡ precedes older y x
   old-precedes y x ty tx = precedes-old m older y x (not-new m older s x tx)

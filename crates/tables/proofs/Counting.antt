@@ -93,49 +93,45 @@ module _ (n count : ℕ) (ds ns ss : List ℕ) where
       made-small j h f = let a = made-is j h in let b = tally-length (suc j) l in let c = view-length n q ds ns bs ss in omega arith
 
       -- There is room to add to column d of a table of the marks passed.
-      pub room-before : q ≤ places → RoomFor n (stepped d n) past before
-      room-before f = let t = w .tables bs below .1 in record {
+      room-in : (f : ℕ → ℕ → ℕ) (row table : List ℕ) → Holds n f table → ((i j : ℕ) → f i j ≤ places * places) → ((j : ℕ) → j < n → getD row j 0 ≤ places) → RoomFor n (stepped d n) row table
+      room-in f row table t most few = record {
         long = t .long;
         inside = λ k h. let c = cell-in n k d h hd in omega arith;
         fits = λ k h.
-            let x : getD before (stepped d n k) 0 ≡ pairsBefore l (suc k) (suc d) = ap (λ (y : ℕ). getD before y 0) (add-comm d (k * n)) ∙ t .cells k d h hd in
-            let y = before-most l (let v = view-length n q ds ns bs ss in omega arith) (suc k) (suc d) in
-            let p = past-within k h in
-            let r = made-small k h f in
+            let x : getD table (stepped d n k) 0 ≡ f (suc k) (suc d) = ap (λ (y : ℕ). getD table y 0) (add-comm d (k * n)) ∙ t .cells k d h hd in
+            let y = most (suc k) (suc d) in
+            let r = few k h in
             omega arith;
       }
 
-      module _ (rest : List ℕ) (hr : (j : ℕ) → j < n → getD rest j 0 ≡ getD made j 0 - getD past j 0) (f : q ≤ places) where
-        rest-small : (j : ℕ) → j < n → getD rest j 0 ≤ places
-        rest-small j h = let a = hr j h in let b = made-small j h f in omega arith
+      module _ (f : q ≤ places) where
+        few : length (view n q ds ns bs ss) ≤ places
+        few = let v = view-length n q ds ns bs ss in omega arith
 
-        apart-small : (i j : ℕ) → i < n → j < n → getD apart (i * n + j) 0 ≤ places * places
-        apart-small i j hi hj = let x = w .tables bs below .0 .cells i j hi hj in let y = apart-most l (let v = view-length n q ds ns bs ss in omega arith) (suc i) (suc j) in omega arith
+        pub room-before : RoomFor n (stepped d n) past before
+        room-before = room-in (pairsBefore l) past before (w .tables bs below .1) (before-most l few) (λ j h. let p = past-within j h in let r = made-small j h f in omega arith)
 
-        pub room-column : RoomFor n (stepped d n) rest apart
-        room-column = record {
-          long = w .tables bs below .0 .long;
-          inside = λ k h. let c = cell-in n k d h hd in omega arith;
-          fits = λ k h.
-              let x : getD apart (stepped d n k) 0 ≡ getD apart (k * n + d) 0 = ap (λ (y : ℕ). getD apart y 0) (add-comm d (k * n)) in
-              let y = apart-small k d h hd in
-              let r = rest-small k h in
-              omega arith;
-        }
+        module _ (rest : List ℕ) (hr : (j : ℕ) → j < n → getD rest j 0 ≡ getD made j 0 - getD past j 0) where
+          rest-small : (j : ℕ) → j < n → getD rest j 0 ≤ places
+          rest-small j h = let a = hr j h in let b = made-small j h f in omega arith
 
-        -- And then to row d.
-        pub room-row : (apart₁ : List ℕ) → Added n (stepped d n) rest apart apart₁ → RoomFor n (stepped (d * n) 1) rest apart₁
-        room-row apart₁ aa = record {
-          long = aa .long ∙ w .tables bs below .0 .long;
-          inside = λ k h. let c = cell-in n d k hd h in omega arith;
-          fits = λ k h.
-              let x : getD apart₁ (stepped (d * n) 1 k) 0 ≡ getD apart₁ (d * n + k) 0 = ap (λ (y : ℕ). getD apart₁ (d * n + y) 0) (mul-one k) in
-              let y = apart-small d k hd h in
-              let r = rest-small k h in
-              let z = column-added n d hd rest apart apart₁ d k hd h aa in
-              let u = cond-most (eqb k d) (getD rest d 0) places (rest-small d hd) in
-              omega arith;
-        }
+          pub room-column : RoomFor n (stepped d n) rest apart
+          room-column = room-in (pairsApart l) rest apart (w .tables bs below .0) (apart-most l few) rest-small
+
+          -- And then to row d.
+          pub room-row : (apart₁ : List ℕ) → Added n (stepped d n) rest apart apart₁ → RoomFor n (stepped (d * n) 1) rest apart₁
+          room-row apart₁ aa = let t = w .tables bs below .0 in record {
+            long = aa .long ∙ t .long;
+            inside = λ k h. let c = cell-in n d k hd h in omega arith;
+            fits = λ k h.
+                let x : getD apart₁ (stepped (d * n) 1 k) 0 ≡ getD apart₁ (d * n + k) 0 = ap (λ (y : ℕ). getD apart₁ (d * n + y) 0) (mul-one k) in
+                let y = t .cells d k hd h in
+                let o = apart-most l few (suc d) (suc k) in
+                let r = rest-small k h in
+                let z = column-added n d hd rest apart apart₁ d k hd h aa in
+                let u = cond-most (eqb k d) (getD rest d 0) places (rest-small d hd) in
+                omega arith;
+          }
 
     -- It is passed.
     module _ (rest before₁ apart₁ apart₂ : List ℕ) (hr : (j : ℕ) → j < n → getD rest j 0 ≡ getD made j 0 - getD past j 0)

@@ -18,9 +18,9 @@ use rows::WIDTH;
 pub const CELLS: usize = WIDTH * WIDTH;
 
 // Of each two desks how many pairs of their marks are apart, and in how many that of the first precedes.
-pub struct Tables {
-    pub apart: [u32; CELLS],
-    pub before: [u32; CELLS],
+struct Tables {
+    apart: [u32; CELLS],
+    before: [u32; CELLS],
 }
 
 // Each count less that of another row.

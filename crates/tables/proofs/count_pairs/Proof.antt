@@ -74,14 +74,14 @@ add-requires-2 c κs =
     let p = before-column c in
     let i = p .before .before in
     let s = i .before .before in
-    (search needs, search needs, room-column width _ _ _ _ _ _ _ _ (i .before .loop .inv) _ (index i .0) (index i .1) (p .past .result) (past-is p) (s .pre .carried) (sound i) (c .before .before .before .before .before .less .result) (c .before .before .before .before .before .less .ensures .counts) (omega (arith, in-range i)))
+    (search needs, search needs, room-column width _ _ _ _ _ _ _ _ (i .before .loop .inv) _ (index i .0) (index i .1) (p .past .result) (past-is p) (s .pre .carried) (sound i) (omega (arith, in-range i)) (c .before .before .before .before .before .less .result) (c .before .before .before .before .before .less .ensures .counts))
 
 add-requires-3 : tie.Need-add-requires-3 Inv-loop μ-loop
 add-requires-3 c κs =
     let p = before-row c in
     let i = p .before .before in
     let s = i .before .before in
-    (search needs, search needs, room-row width _ _ _ _ _ _ _ _ (i .before .loop .inv) _ (index i .0) (index i .1) (p .past .result) (past-is p) (s .pre .carried) (sound i) (c .before .before .before .before .before .before .before .before .less .result) (c .before .before .before .before .before .before .before .before .less .ensures .counts) (omega (arith, in-range i)) _ (c .before .before .add2 .ensures))
+    (search needs, search needs, room-row width _ _ _ _ _ _ _ _ (i .before .loop .inv) _ (index i .0) (index i .1) (p .past .result) (past-is p) (s .pre .carried) (sound i) (omega (arith, in-range i)) (c .before .before .before .before .before .before .before .before .less .result) (c .before .before .before .before .before .before .before .before .less .ensures .counts) _ (c .before .before .add2 .ensures))
 
 add-made : tie.Need-add-made Inv-loop μ-loop
 add-made c =
