@@ -21,8 +21,8 @@ use Rattle.causality.proofs.Cases.{Arrives, ReceiveCase, executes, rece
 use Rattle.causality.proofs.Lists.{Picked, absent-all, all-at, all-map, any-cong, any-find, any-of, find-has, has-append, has-keep, has-self, ids-append, ids-length, keep-has, lowest-picked, nor-fst, nor-snd, without-all}
 use Rattle.causality.proofs.Logic.{T→eq, and-fst, and-intro, bool-ext, nT→eq, or-cases, or-inl, or-inr, same-refl, same→eq, split}
 use Rattle.causality.proofs.Numbers.{ready-next}
-use Rattle.causality.proofs.Past.{Counted, Good, Standing, fresh-of, has-heads, head-in, head-out, heads-has, no-self, prefix-has, prefix-le, top-exists}
-use Rattle.causality.proofs.Reckoning.{among-le, counted-once, keep-once, reckoning-of, reckoning-past}
+use Rattle.causality.proofs.Past.{Counted, Good, Standing, fresh-of, has-heads, head-in, head-out, heads-has, no-self, prefix-has, top-exists}
+use Rattle.causality.proofs.Reckoning.{among-le, counted-once, keep-once, reckoning-of}
 
 pub record Follows (m : Mark) (older : List Mark) : Type 0 where
   pub next : m .id .number ≡ suc (tally (m .id .desk) (ids older))

@@ -1,5 +1,5 @@
 -- The reckoning by rows: it is the sum of the row that a mark's entries reach, and that row is final as soon as it covers the tally. Assumes nothing.
-use Prim.Native.Nat.{_+_, _<_, _≤_, max, min, suc, zero, ℕ}
+use Prim.Native.Nat.{_+_, _≤_, max, min, suc, zero, ℕ}
 use lib.Dec.{T, T-not, eqb, eqb-refl, eqb→eq, leb, leb→le, le→leb, nleb→lt, not-T}
 use lib.ListN.{length}
 use mathlib.Core.Bool.{Bool, cond, false, not, true}
@@ -14,7 +14,7 @@ use Rattle.causality.proofs.Apart.{trace-counts}
 use Rattle.causality.proofs.Lists.{has-self, keep-cong}
 use Rattle.causality.proofs.Logic.{nT→eq, or-inr, split}
 use Rattle.causality.proofs.Past.{Counted, prefix-le, tally-le, tally-same}
-use Rattle.causality.proofs.Reach.{Sound, local, local-hist, local-precedes, precedes-self, sound-counted}
+use Rattle.causality.proofs.Reach.{Sound, local-hist, local-precedes, precedes-self, sound-counted}
 use Rattle.causality.proofs.RowLaws.{under, under-trace}
 use Rattle.causality.proofs.Rows.{row-find, rowOf, trace}
 

@@ -22,7 +22,7 @@ use Rattle.history.specs.Demand3.{entriesIn}
 use Rattle.history.specs.Evidence.{happenedBefore}
 use Rattle.history.specs.Plain.{DeskLists, look, madeIds}
 use Rattle.history.specs.Run.{Run, Step, Written, atDesk, frameAt, handing, marking, run, runStep, stateAt, toFirst, toSecond, written, writtenId}
-use Rattle.history.specs.Silent.{FollowedAlike, FollowedAt, Silent, SilentDeskLeaves, listedAt}
+use Rattle.history.specs.Silent.{FollowedAlike, FollowedAt, SilentDeskLeaves, listedAt}
 use Rattle.history.proofs.Calls.{MarkCase, declined, granted, made-ids, mark-cases}
 use Rattle.history.proofs.MarkRun.{fresh, look-new, markStateAt, runMarks}
 use Rattle.history.proofs.Sequence.{AtDesks, inv-of, pastAt, plainOf, same-run}
