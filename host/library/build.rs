@@ -1,0 +1,13 @@
+//! Links the proved engine, target/staticlib/libabi.a of the repository.
+use std::env;
+use std::path::PathBuf;
+
+fn main() {
+    let host = PathBuf::from(env::var("CARGO_MANIFEST_DIR").expect("cargo sets CARGO_MANIFEST_DIR"));
+    let libraries = host.join("../../target/staticlib");
+    let engine = libraries.join("libabi.a");
+    println!("cargo:rerun-if-changed={}", engine.display());
+    assert!(engine.exists(), "the proved engine is not built: run `rt staticlib abi` at the root of the repository");
+    println!("cargo:rustc-link-search=native={}", libraries.display());
+    println!("cargo:rustc-link-lib=static=abi");
+}
