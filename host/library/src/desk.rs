@@ -11,6 +11,28 @@ use crate::{
 /// Every call is the proved engine's. A desk comes only from [`Desk::new`] and the calls; it can be neither copied nor
 /// altered otherwise, so what is proved of the calls holds of every value of this type.
 ///
+/// It has no parts that it could be built from or altered by,
+///
+/// ```compile_fail,E0451
+/// let desk = kaungimewe::Desk { raw: unimplemented!() };
+/// ```
+/// ```compile_fail,E0616
+/// # let mut desk = kaungimewe::Desk::new(1).unwrap();
+/// desk.raw.count = 0;
+/// ```
+///
+/// and two copies of it would make different marks of one name, so that there is no `Clone` and no `Copy`:
+///
+/// ```compile_fail,E0599
+/// # let desk = kaungimewe::Desk::new(1).unwrap();
+/// let other = desk.clone();
+/// ```
+/// ```compile_fail,E0382
+/// # let desk = kaungimewe::Desk::new(1).unwrap();
+/// let other = desk;
+/// desk.count();
+/// ```
+///
 /// The calls work on the desk in place and need under 5 KiB of stack; [`Desk::new`] needs room for a few copies of a
 /// desk's 31 KiB.
 pub struct Desk {
@@ -19,7 +41,12 @@ pub struct Desk {
 
 /// What a desk was at some moment, to compare with: equal if every count, mark and stamp is.
 ///
-/// Nothing makes a desk of it.
+/// Nothing makes a desk of it:
+///
+/// ```compile_fail,E0308
+/// # let desk = kaungimewe::Desk::new(1).unwrap();
+/// let again: kaungimewe::Desk = desk.snapshot();
+/// ```
 #[derive(Clone, PartialEq, Eq)]
 pub struct Snapshot {
     raw: Box<abi::Desk>,
@@ -228,6 +255,12 @@ impl Desk {
     /// The desk's own number.
     pub fn number(&self) -> u8 {
         self.raw.own
+    }
+
+    /// The name of the mark that Mark would make next.
+    pub(crate) fn next(&self) -> MarkId {
+        let own = self.raw.own;
+        MarkId::new(own, self.raw.tally[usize::from(own) - 1] + 1)
     }
 
     /// How many marks are executed here.

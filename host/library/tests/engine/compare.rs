@@ -4,7 +4,6 @@ use std::collections::BTreeMap;
 
 use kaungimewe::{Evidence, Mark, MarkId, Refusal, LARGEST_FRAME, PAIR_COUNTS, PLACES};
 use peers::draws::Draws;
-use peers::model::codec;
 use peers::{Engine, Stamped};
 
 use crate::pair::{both, edition1, Pair};
@@ -22,7 +21,7 @@ impl<E: Stamped> Pair<E> {
         assert_eq!(self.engine.executed(), self.model.executed());
         assert_eq!(self.engine.waiting(), self.model.waiting());
         let before = self.engine.snapshot();
-        assert!(before == self.again().snapshot(), "desks with the same marks differ");
+        assert!(before == self.engine.again().snapshot(), "a desk made again of its frames differs");
         let names = self.names();
         for a in chosen(&names, ASKED, draws) {
             for b in chosen(&names, ASKED, draws) {
@@ -43,19 +42,6 @@ impl<E: Stamped> Pair<E> {
         }
         self.compare_tables();
         assert!(before == self.engine.snapshot(), "a question has changed the desk");
-    }
-
-    /// A fresh desk that comes by the same marks in the order of their places, and then by the waiting ones.
-    fn again(&self) -> E {
-        let mut desk = E::new(self.own).expect("a desk");
-        for mark in self.engine.executed().iter().chain(&self.engine.waiting()) {
-            if mark.id.desk == self.own {
-                desk.mark(mark.extent, &mut [0; LARGEST_FRAME]).expect("its own mark");
-            } else {
-                desk.receive(&codec::frame_of(mark)).expect("a mark that it had");
-            }
-        }
-        desk
     }
 
     /// The marks here, and some that are not.

@@ -14,6 +14,7 @@ mod missing;
 mod network;
 mod pair;
 mod pinned;
+mod replay;
 mod sequences;
 mod silent;
 mod tables;
