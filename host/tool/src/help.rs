@@ -6,10 +6,12 @@ kaungimewe: desks of the proved causality engine, at a terminal
   ./kaungimewe run [--explain] [FILE]                            a script of calls, one answer a line
   ./kaungimewe draw [--apart A.N] [--why A.N,B.M] [FILE] > SVG   the same script as a picture
   ./kaungimewe pairs [--desk D] [FILE] > CSV                     how many pairs of marks each two observers made apart
+  ./kaungimewe save D [FILE] > SCRIPT                            a desk as a script that makes it again
   ./kaungimewe bench [--check] [--rounds N] [--seed S]           the engine's times beside those of two others
 
 FILE is a script; without it, or with -, the script is read from standard input.
-`./kaungimewe run --help` says what a script is, `draw --help`, `pairs --help` and `bench --help` what they show.
+`./kaungimewe run --help` says what a script is, `draw --help`, `pairs --help`, `save --help` and `bench --help` what they
+show.
 Exit status: 0; 1 where `bench --check` finds a bound missed; 2 where the command or a line of the script is wrong.
 ";
 
@@ -34,6 +36,7 @@ what stands behind a #.
   frame D A.N [LENT]                     frame SIZE HEX             | refused C
   list D                                 executed A.N ..            by place
   held D                                 waiting A.N ..             by desk, then number
+  save D                                 a script that makes desk D again, line by line
   read HEX                               fields D N START END LOW HIGH COUNT A.N ..             of edition 1
                                          | fields2 D N START END LOW HIGH PAST COUNT A.N ..     of edition 2
                                          | refused C
@@ -60,6 +63,7 @@ A frame of edition 2 says PAST, its mark's past count: the number of marks that 
 mark of another desk follows all that is executed of it at D, none made at D names it, until a further one of it is executed.
 M counts the marks that a waiting one is short of: entries of its stamp that are not executed there, and its desk's previous
 mark where that is neither executed nor an entry. K counts the marks executed by the call, F those dropped for a false stamp.
+`save` prints the lines by which desk D is kept: `./kaungimewe save --help` says which they are.
 Words are separated by spaces, numbers are decimal, bytes are hex (- for no bytes). `new D` of a desk that is there gives an
 empty desk in its place.
 
@@ -99,6 +103,22 @@ counted.
   first_before, second_before    pairs where the first desk's mark precedes the second's, and the other way about
 
 The last three add up to marks_first times marks_second.
+";
+
+pub const SAVE: &str = "\
+./kaungimewe save D [FILE] > kept.txt
+
+Runs the script that `run` answers and prints desk D, as it is at the end, as a script that makes it again, with the same
+list, waiting marks and stamps: `./kaungimewe run kept.txt`. So a desk is kept over night. The line `save D` of a script
+prints the same.
+
+  new D             the fresh desk
+  mark D ..         for each own mark, in its place: it is made again, with its box; the `receive` behind it is answered
+                    `known`, since it comes out as the same bytes
+  receive D HEX     for each other mark, executed ones by place as `frame` writes them, then the waiting ones in order of
+                    arrival, each of the edition in which it came
+
+Marks that were dropped or refused are not of the desk, and are not kept.
 ";
 
 pub const BENCH: &str = "\

@@ -5,6 +5,7 @@ mod help;
 mod pairs;
 mod room;
 mod run;
+mod save;
 mod script;
 mod words;
 
@@ -34,6 +35,7 @@ fn command(words: &[&str]) -> Result<bool, String> {
         Some((&"run", rest)) => run_command(rest)?,
         Some((&"draw", rest)) => draw_command(rest)?,
         Some((&"pairs", rest)) => pairs_command(rest)?,
+        Some((&"save", rest)) => save_command(rest)?,
         Some((&"bench", rest)) => return bench_command(rest),
         Some((word, _)) => return Err(format!("`{word}` is not a command: see ./kaungimewe --help")),
         None => return Err(help::TOOL.trim_end().to_string()),
@@ -78,6 +80,16 @@ fn pairs_command(words: &[&str]) -> Result<(), String> {
         }
     }
     say(&pairs::pairs(open(file)?, desk)?)
+}
+
+fn save_command(words: &[&str]) -> Result<(), String> {
+    if words.iter().any(|word| ["--help", "-h"].contains(word)) {
+        return say(help::SAVE);
+    }
+    let mut words = words.iter();
+    let desk = words.next().and_then(|word| word.parse().ok()).ok_or("save needs a desk's number")?;
+    let file = words.try_fold(None, |file, word| file_name(word, file).map(Some))?;
+    say(&save::save(open(file)?, desk)?)
 }
 
 /// False where a bound was to be checked and is missed.

@@ -2,6 +2,7 @@
 mod bench;
 mod pairs;
 mod picture;
+mod save;
 
 use std::io::Write;
 use std::process::{Command, Output, Stdio};
@@ -47,6 +48,7 @@ fn examples_are_answered_as_stored() {
     assert_eq!(printed(&["run", "why.txt"], ""), stored("why.out"));
     assert_eq!(printed(&["run", "silent.txt"], ""), stored("silent.out"));
     assert_eq!(printed(&["run", "pairs.txt"], ""), stored("pairs.out"));
+    assert_eq!(printed(&["run", "save.txt"], ""), stored("save.out"));
 }
 
 #[test]
@@ -119,12 +121,14 @@ fn wrong_commands_are_told() {
 #[test]
 fn help_names_every_call_and_refusal() {
     let tool = printed(&["--help"], "");
-    for command in ["run [--explain]", "draw [--apart A.N] [--why A.N,B.M]", "pairs [--desk D]", "bench [--check]"] {
+    for command in
+        ["run [--explain]", "draw [--apart A.N] [--why A.N,B.M]", "pairs [--desk D]", "save D", "bench [--check]"]
+    {
         assert!(tool.contains(&format!("./kaungimewe {command}")), "{command}");
     }
     let help = printed(&["run", "--help"], "");
     let calls = ["new", "mark", "receive", "hand", "hand1", "relate", "why", "apart", "first", "frame", "list", "held"];
-    for call in calls.iter().chain(&["pairs", "read", "write", "write2", "to2", "to1"]) {
+    for call in calls.iter().chain(&["pairs", "save", "read", "write", "write2", "to2", "to1"]) {
         assert!(help.contains(&format!("\n  {call} ")), "{call}");
     }
     for refusal in kaungimewe::Refusal::ALL {
