@@ -19,7 +19,15 @@
  * allocates, blocks, or keeps anything between calls. Every call may be made from any thread; while one thread marks or
  * receives at a desk, no other may use that desk.
  *
- * Link with target/staticlib/libabi.a, which `rt staticlib abi` proves and writes.
+ * A desk is kept over night by its frames. Write out, for p = 0 .. count - 1, the frame of mark desks[p].numbers[p] as
+ * kaungimewe_frame_again gives it; then, for each waiting mark in order, its frame by kaungimewe_write2 with the past count
+ * queue.pasts[p] - 1, or by kaungimewe_write where queue.pasts[p] is 0; its entries are the desks d, rising, at which
+ * queue.stamps[16 * p + d - 1] is not 0. To have the desk again, take a fresh desk of the same number through the frames in
+ * this order: one whose desk (byte 3) is not its own by kaungimewe_receive, an own one by kaungimewe_mark with its box,
+ * which must write the same bytes. It is then the same desk. Keep the frame of a new mark before it is sent anywhere: a desk
+ * that is made again without a mark that others have seen would make another of the same name. host/example.c does it.
+ *
+ * Link with target/staticlib/libabi.a, which `rt staticlib abi` proves and writes, for x86-64.
  */
 #ifndef KAUNGIMEWE_H
 #define KAUNGIMEWE_H
@@ -181,6 +189,29 @@ typedef struct {
     uint16_t past;       /* the past count, of edition 2; 0 in edition 1 */
     size_t entries_size; /* the entries are so many bytes from frame[23] on in edition 1, frame[25] in edition 2 */
 } kaungimewe_read_answer;
+
+/* The engine's own sizes: a compiler that lays these out otherwise cannot call it. */
+#if defined(__cplusplus) && __cplusplus >= 201103L
+#define KAUNGIMEWE_SIZE(type, bytes) static_assert(sizeof(type) == (bytes), #type " has " #bytes " bytes")
+#elif defined(__STDC_VERSION__) && __STDC_VERSION__ >= 201112L
+#define KAUNGIMEWE_SIZE(type, bytes) _Static_assert(sizeof(type) == (bytes), #type " has " #bytes " bytes")
+#endif
+#ifdef KAUNGIMEWE_SIZE
+KAUNGIMEWE_SIZE(kaungimewe_box, 16);
+KAUNGIMEWE_SIZE(kaungimewe_mark_id, 4);
+KAUNGIMEWE_SIZE(kaungimewe_waiting, 3400);
+KAUNGIMEWE_SIZE(kaungimewe_desk, 31672);
+KAUNGIMEWE_SIZE(kaungimewe_new_answer, 31680);
+KAUNGIMEWE_SIZE(kaungimewe_mark_answer, 16);
+KAUNGIMEWE_SIZE(kaungimewe_receive_answer, 8);
+KAUNGIMEWE_SIZE(kaungimewe_relate_answer, 2);
+KAUNGIMEWE_SIZE(kaungimewe_evidence_answer, 24);
+KAUNGIMEWE_SIZE(kaungimewe_apart_answer, 16);
+KAUNGIMEWE_SIZE(kaungimewe_first_answer, 4);
+KAUNGIMEWE_SIZE(kaungimewe_write_answer, 16);
+KAUNGIMEWE_SIZE(kaungimewe_read_answer, 32);
+#undef KAUNGIMEWE_SIZE
+#endif
 
 /* The exports whose names end in _lent are inner ones: lent the members of a desk by the functions below. Do not call
  * them by hand. They ask that all they are lent is of one desk that the calls gave. */
