@@ -37,7 +37,8 @@ impl std::error::Error for ReplayError {}
 
 impl Desk {
     /// The frames by which the desk is kept: of its executed marks by place, as Frame again writes them, then of its
-    /// waiting ones in order of arrival, each of the edition in which it came. [`Desk::replay`] takes them.
+    /// waiting ones in order of arrival, each of the edition in which it came. [`Desk::replay`] takes them. Laid end to end
+    /// in a file they are told apart by their length fields.
     pub fn frames(&self) -> Vec<Vec<u8>> {
         let executed = self.executed().into_iter().map(|mark| lent(|out| self.frame_again(mark.id, out)));
         executed.chain(self.waiting().iter().map(frame_of)).collect()
