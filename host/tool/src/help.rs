@@ -1,4 +1,5 @@
-//! What `--help` says.
+//! What `--help` says. The launcher prints these texts from this file while the tool is not built: so they have no escapes,
+//! and each ends with a line `";`.
 
 pub const TOOL: &str = "\
 kaungimewe: desks of the proved causality engine, at a terminal
@@ -15,6 +16,7 @@ show.
 Exit status: 0; 1 where `bench --check` finds a bound missed; 2 where the command or a line of the script is wrong.
 ";
 
+/// The table of refusals is the library's, which a test holds it to.
 pub const RUN: &str = "\
 ./kaungimewe run [--explain] [FILE]
 
@@ -69,9 +71,21 @@ empty desk in its place.
 
 C is the number of the refusal; with --explain its condition stands behind it:
 
-";
+   1  desk not 1 to 16
+   2  under 23 bytes, or length field not size − 2
+   3  version not 1 or 2
+   4  c over 16, or (read) size not 23 + 3·c in edition 1, 25 + 3·c in edition 2, or (writer) entries part not whole entries
+   5  desk or number out of range, past count over 511, or box rule broken: start > end, or low ≥ high
+   6  an entry out of range, desks not strictly rising, or own desk's entry with number ≥ the frame's
+   7  frame's mark, or an entry, is of this desk and not yet made
+   8  same mark executed or waiting with other fields, the past counts compared where both have one
+   9  executed + waiting = 512
+  10  not ready, 64 waiting
+  11  ready, false stamp: by its entries, or by a past count that is not the desk's own reckoning
+  12  a named mark is not executed
+  13  lent output too short
+  14  frame already of the wanted edition
 
-pub const RUN_END: &str = "
 A line that is none of these stops the run with exit status 2 and `line N: what is wrong` on standard error; the output
 before it stands.
 ";

@@ -13,7 +13,7 @@ use std::fs::File;
 use std::io::{self, BufRead, BufReader, Write};
 use std::process::ExitCode;
 
-use kaungimewe::{MarkId, Refusal};
+use kaungimewe::MarkId;
 
 fn main() -> ExitCode {
     let words: Vec<String> = std::env::args_os().skip(1).map(|word| word.to_string_lossy().into_owned()).collect();
@@ -47,7 +47,7 @@ fn run_command(words: &[&str]) -> Result<(), String> {
     let (mut explain, mut file) = (false, None);
     for word in words {
         match *word {
-            "--help" | "-h" => return say(&run_help()),
+            "--help" | "-h" => return say(help::RUN),
             "--explain" => explain = true,
             _ => file = Some(file_name(word, file)?),
         }
@@ -108,12 +108,6 @@ fn bench_command(words: &[&str]) -> Result<bool, String> {
     let rounds = rounds as usize;
     let (text, held) = if check { bench::check(rounds, seed) } else { (bench::bench(rounds, seed), true) };
     say(&text).map(|()| held)
-}
-
-/// The help of `run`, with the refusals from their own table.
-fn run_help() -> String {
-    let table: String = Refusal::ALL.iter().map(|r| format!("  {:>2}  {}\n", r.number(), r.sentence())).collect();
-    format!("{}{table}{}", help::RUN, help::RUN_END)
 }
 
 fn apart_name(word: Option<&&str>) -> Result<MarkId, String> {

@@ -131,7 +131,7 @@ fn help_names_every_call_and_refusal() {
     for call in calls.iter().chain(&["pairs", "save", "read", "write", "write2", "to2", "to1"]) {
         assert!(help.contains(&format!("\n  {call} ")), "{call}");
     }
-    for refusal in kaungimewe::Refusal::ALL {
-        assert!(help.contains(refusal.sentence()), "{refusal}");
-    }
+    let refusals = kaungimewe::Refusal::ALL;
+    let table: String = refusals.iter().map(|r| format!("  {:>2}  {}\n", r.number(), r.sentence())).collect();
+    assert!(help.contains(&format!("\n\n{table}\n")), "the refusals as the library has them:\n{table}");
 }
