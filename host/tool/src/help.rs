@@ -10,7 +10,8 @@ kaungimewe: desks of the proved causality engine, at a terminal
   ./kaungimewe save D [FILE] > SCRIPT                            a desk as a script that makes it again
   ./kaungimewe bench [--check] [--rounds N] [--seed S]           the engine's times beside those of two others
 
-FILE is a script; without it, or with -, the script is read from standard input.
+FILE is a script; without it, or with -, the script is read from standard input. Behind -- no word is an option, so a file's
+name may begin with a dash there. An option may be given once.
 `./kaungimewe run --help` says what a script is, `draw --help`, `pairs --help`, `save --help` and `bench --help` what they
 show.
 Exit status: 0; 1 where `bench --check` finds a bound missed; 2 where the command or a line of the script is wrong.
@@ -66,8 +67,8 @@ mark of another desk follows all that is executed of it at D, none made at D nam
 M counts the marks that a waiting one is short of: entries of its stamp that are not executed there, and its desk's previous
 mark where that is neither executed nor an entry. K counts the marks executed by the call, F those dropped for a false stamp.
 `save` prints the lines by which desk D is kept: `./kaungimewe save --help` says which they are.
-Words are separated by spaces, numbers are decimal, bytes are hex (- for no bytes). `new D` of a desk that is there gives an
-empty desk in its place.
+Words are separated by spaces, numbers are decimal, bytes are hex (- for no bytes), and all is UTF-8 text. `new D`
+of a desk that is there gives an empty desk in its place.
 
 C is the number of the refusal; with --explain its condition stands behind it:
 

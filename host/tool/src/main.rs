@@ -2,6 +2,7 @@
 mod bench;
 mod draw;
 mod help;
+mod options;
 mod pairs;
 mod room;
 mod run;
@@ -9,138 +10,118 @@ mod save;
 mod script;
 mod words;
 
-use std::fs::File;
-use std::io::{self, BufRead, BufReader, Write};
+use std::ffi::OsString;
+use std::io::{self, Write};
 use std::process::ExitCode;
 
 use kaungimewe::MarkId;
 
+use options::{Command, Given};
+use words::{mark_name, quoted};
+
+const COMMANDS: [Command; 5] = [
+    Command {
+        name: "run",
+        help: help::RUN,
+        needs: None,
+        options: &[("--explain", None)],
+        takes_file: true,
+        act: run_command,
+    },
+    Command {
+        name: "draw",
+        help: help::DRAW,
+        needs: None,
+        options: &[("--apart", Some("a mark's name like 1.2")), ("--why", Some("the names of two marks like 1.2,3.1"))],
+        takes_file: true,
+        act: draw_command,
+    },
+    Command {
+        name: "pairs",
+        help: help::PAIRS,
+        needs: None,
+        options: &[("--desk", Some("a desk's number"))],
+        takes_file: true,
+        act: pairs_command,
+    },
+    Command {
+        name: "save",
+        help: help::SAVE,
+        needs: Some("a desk's number"),
+        options: &[],
+        takes_file: true,
+        act: save_command,
+    },
+    Command {
+        name: "bench",
+        help: help::BENCH,
+        needs: None,
+        options: &[("--check", None), ("--rounds", Some("a number")), ("--seed", Some("a number"))],
+        takes_file: false,
+        act: bench_command,
+    },
+];
+
 fn main() -> ExitCode {
-    let words: Vec<String> = std::env::args_os().skip(1).map(|word| word.to_string_lossy().into_owned()).collect();
-    let words: Vec<&str> = words.iter().map(String::as_str).collect();
+    let words: Vec<OsString> = std::env::args_os().skip(1).collect();
     match command(&words) {
         Ok(true) => ExitCode::SUCCESS,
         Ok(false) => ExitCode::FAILURE,
         Err(wrong) => {
-            eprintln!("{wrong}");
+            // Where nobody can be told, the status still says it.
+            let _ = writeln!(io::stderr(), "{wrong}");
             ExitCode::from(2)
         }
     }
 }
 
 /// Does what the words say. False where a check was made and not passed.
-fn command(words: &[&str]) -> Result<bool, String> {
-    match words.split_first() {
-        Some((&("--help" | "-h"), _)) => say(help::TOOL)?,
-        Some((&"run", rest)) => run_command(rest)?,
-        Some((&"draw", rest)) => draw_command(rest)?,
-        Some((&"pairs", rest)) => pairs_command(rest)?,
-        Some((&"save", rest)) => save_command(rest)?,
-        Some((&"bench", rest)) => return bench_command(rest),
-        Some((word, _)) => return Err(format!("`{word}` is not a command: see ./kaungimewe --help")),
-        None => return Err(help::TOOL.trim_end().to_string()),
+fn command(words: &[OsString]) -> Result<bool, String> {
+    let (word, rest) = words.split_first().ok_or(help::TOOL.trim_end())?;
+    if word == "--help" || word == "-h" {
+        return say(help::TOOL).map(|()| true);
     }
-    Ok(true)
+    let command = COMMANDS.iter().find(|command| word == command.name);
+    let command = command.ok_or_else(|| format!("{} is not a command: see ./kaungimewe --help", quoted(word)))?;
+    let given = command.read(rest)?;
+    if given.help {
+        return say(command.help).map(|()| true);
+    }
+    (command.act)(&given)
 }
 
-fn run_command(words: &[&str]) -> Result<(), String> {
-    let (mut explain, mut file) = (false, None);
-    for word in words {
-        match *word {
-            "--help" | "-h" => return say(help::RUN),
-            "--explain" => explain = true,
-            _ => file = Some(file_name(word, file)?),
-        }
-    }
-    run::run(open(file)?, explain, say)
+fn run_command(given: &Given) -> Result<bool, String> {
+    run::run(given.open()?, given.has("--explain"), say).map(|()| true)
 }
 
-fn draw_command(words: &[&str]) -> Result<(), String> {
-    let (mut options, mut file) = (draw::Options::default(), None);
-    let mut words = words.iter();
-    while let Some(word) = words.next() {
-        match *word {
-            "--help" | "-h" => return say(help::DRAW),
-            "--apart" => options.apart = Some(apart_name(words.next())?),
-            "--why" => options.why = Some(why_names(words.next())?),
-            _ => file = Some(file_name(word, file)?),
-        }
-    }
-    say(&draw::draw(open(file)?, options)?)
+fn draw_command(given: &Given) -> Result<bool, String> {
+    let apart = given.word("--apart").map(mark_name).transpose()?;
+    let why = given.word("--why").map(two_names).transpose()?;
+    say(&draw::draw(given.open()?, draw::Options { apart, why })?).map(|()| true)
 }
 
-fn pairs_command(words: &[&str]) -> Result<(), String> {
-    let (mut desk, mut file) = (None, None);
-    let mut words = words.iter();
-    while let Some(word) = words.next() {
-        match *word {
-            "--help" | "-h" => return say(help::PAIRS),
-            "--desk" => desk = Some(count(words.next(), "--desk")?),
-            _ => file = Some(file_name(word, file)?),
-        }
-    }
-    say(&pairs::pairs(open(file)?, desk)?)
+fn pairs_command(given: &Given) -> Result<bool, String> {
+    let desk = given.number("--desk")?;
+    say(&pairs::pairs(given.open()?, desk)?).map(|()| true)
 }
 
-fn save_command(words: &[&str]) -> Result<(), String> {
-    if words.iter().any(|word| ["--help", "-h"].contains(word)) {
-        return say(help::SAVE);
-    }
-    let mut words = words.iter();
-    let desk = words.next().and_then(|word| word.parse().ok()).ok_or("save needs a desk's number")?;
-    let file = words.try_fold(None, |file, word| file_name(word, file).map(Some))?;
-    say(&save::save(open(file)?, desk)?)
+fn save_command(given: &Given) -> Result<bool, String> {
+    let desk = words::number(&given.needed)?;
+    say(&save::save(given.open()?, desk)?).map(|()| true)
 }
 
 /// False where a bound was to be checked and is missed.
-fn bench_command(words: &[&str]) -> Result<bool, String> {
-    let (mut rounds, mut seed, mut check) = (5, 2, false);
-    let mut words = words.iter();
-    while let Some(word) = words.next() {
-        match *word {
-            "--help" | "-h" => return say(help::BENCH).map(|()| true),
-            "--check" => check = true,
-            "--rounds" => rounds = count(words.next(), "--rounds")?.max(1),
-            "--seed" => seed = count(words.next(), "--seed")?,
-            _ => return Err(format!("`{word}` is not an option: see ./kaungimewe bench --help")),
-        }
-    }
-    let rounds = rounds as usize;
-    let (text, held) = if check { bench::check(rounds, seed) } else { (bench::bench(rounds, seed), true) };
+fn bench_command(given: &Given) -> Result<bool, String> {
+    let rounds = given.number("--rounds")?.unwrap_or(5).max(1) as usize;
+    let seed = given.number("--seed")?.unwrap_or(2);
+    let (text, held) =
+        if given.has("--check") { bench::check(rounds, seed) } else { (bench::bench(rounds, seed), true) };
     say(&text).map(|()| held)
 }
 
-fn apart_name(word: Option<&&str>) -> Result<MarkId, String> {
-    words::mark_name(word.ok_or("--apart needs a mark's name like 1.2")?)
-}
-
-fn why_names(word: Option<&&str>) -> Result<(MarkId, MarkId), String> {
-    let names = word.and_then(|w| w.split_once(',')).ok_or("--why needs the names of two marks like 1.2,3.1")?;
-    Ok((words::mark_name(names.0)?, words::mark_name(names.1)?))
-}
-
-fn count(word: Option<&&str>, option: &str) -> Result<u64, String> {
-    word.and_then(|w| w.parse().ok()).ok_or_else(|| format!("{option} needs a number"))
-}
-
-fn file_name<'a>(word: &'a str, earlier: Option<&str>) -> Result<&'a str, String> {
-    if word.starts_with("--") {
-        return Err(format!("`{word}` is not an option: see ./kaungimewe --help"));
-    }
-    match earlier {
-        None => Ok(word),
-        Some(_) => Err(format!("`{word}` is a second file")),
-    }
-}
-
-fn open(file: Option<&str>) -> Result<Box<dyn BufRead>, String> {
-    match file {
-        None | Some("-") => Ok(Box::new(io::stdin().lock())),
-        Some(name) => {
-            let file = File::open(name).map_err(|e| format!("{name}: {e}"))?;
-            Ok(Box::new(BufReader::new(file)))
-        }
-    }
+fn two_names(word: &str) -> Result<(MarkId, MarkId), String> {
+    let names = word.split_once(',').ok_or_else(|| format!("{} is not two names like 1.2,3.1", quoted(word)))?;
+    Ok((mark_name(names.0)?, mark_name(names.1)?))
 }
 
 /// Writes to standard output. Where nobody reads it any more, the tool ends without a word.
