@@ -67,8 +67,8 @@ mark of another desk follows all that is executed of it at D, none made at D nam
 M counts the marks that a waiting one is short of: entries of its stamp that are not executed there, and its desk's previous
 mark where that is neither executed nor an entry. K counts the marks executed by the call, F those dropped for a false stamp.
 `save` prints the lines by which desk D is kept: `./kaungimewe save --help` says which they are.
-Words are separated by spaces, numbers are decimal, bytes are hex (- for no bytes), and all is UTF-8 text. `new D`
-of a desk that is there gives an empty desk in its place.
+Words are separated by spaces, numbers are decimal, bytes are hex (- for no bytes), and all is UTF-8 text, at
+most 1048576 bytes a line. `new D` of a desk that is there gives an empty desk in its place.
 
 C is the number of the refusal; with --explain its condition stands behind it:
 
