@@ -1,6 +1,11 @@
 //! `draw`: a script's history as an SVG picture.
+mod arrows;
+mod boxes;
 mod layout;
+mod legend;
 mod record;
+mod route;
+mod sizes;
 mod svg;
 mod why;
 
@@ -12,6 +17,7 @@ use kaungimewe::{MarkId, PLACES};
 use crate::room::Room;
 use crate::script::each_call;
 use record::Record;
+use svg::Picture;
 use why::Why;
 
 /// What a picture shows besides its marks.
@@ -21,10 +27,12 @@ pub struct Options {
     pub apart: Option<MarkId>,
     /// The chain that shows which of the two precedes the other.
     pub why: Option<(MarkId, MarkId)>,
+    /// The marks where they were made alone, on a page.
+    pub made: bool,
 }
 
 /// The picture of a script.
-pub fn draw(input: impl BufRead, Options { apart, why }: Options) -> Result<String, String> {
+pub fn draw(input: impl BufRead, Options { apart, why, made }: Options) -> Result<String, String> {
     let mut room = Room::default();
     let mut record = Record::default();
     each_call(input, |call| {
@@ -34,7 +42,8 @@ pub fn draw(input: impl BufRead, Options { apart, why }: Options) -> Result<Stri
     })?;
     let pairs = apart.map(|mark| Ok::<_, String>((mark, concurrent(&room, mark)?))).transpose()?;
     let why = why.map(|names| Why::ask(&room, names)).transpose()?;
-    Ok(svg::picture(&layout::lay_out(record), pairs, why))
+    let sizes = if made { &sizes::MADE } else { &sizes::FULL };
+    Ok(Picture { pairs, why, once: made, sizes }.svg(&layout::lay_out(record, made)))
 }
 
 /// The marks concurrent with a given one, at any desk that has executed it.

@@ -1,0 +1,68 @@
+//! The arrows from entries to marks, and the broken lines of concurrent pairs.
+use super::layout::{Layout, Shown};
+use super::route::Join;
+use super::svg::Picture;
+
+/// How far a line's corners are rounded.
+const BEND: i64 = 5;
+
+/// A line of the picture: its sort, which boxes it joins, and what it tells where it is pointed at.
+pub struct Drawn {
+    pub class: &'static str,
+    pub join: Join,
+    title: String,
+}
+
+/// Every arrow, and behind them the broken lines.
+pub fn lines(layout: &Layout, picture: &Picture) -> Vec<Drawn> {
+    let mut lines = Vec::new();
+    for arrow in &layout.arrows {
+        let (from, to) = (&layout.shown[arrow.from], &layout.shown[arrow.to]);
+        let joins = picture.why.as_ref().is_some_and(|why| why.joins(&from.mark, &to.mark));
+        lines.push(Drawn {
+            class: if joins { "entry link" } else { "entry" },
+            join: Join { from: arrow.from, to: arrow.to, turn: false },
+            title: format!("{} is an entry of {}", from.mark.id, to.mark.id),
+        });
+    }
+    let firsts = || (0..layout.shown.len()).filter(|&at| layout.shown[at].first);
+    let chosen = firsts().filter(|&at| picture.is_chosen(&layout.shown[at]));
+    let others: Vec<usize> = firsts().filter(|&at| picture.is_apart(&layout.shown[at])).collect();
+    lines.extend(chosen.flat_map(|one| others.iter().map(move |&other| pair(&layout.shown, one, other))));
+    lines
+}
+
+/// The line of a concurrent pair, from the box further left.
+fn pair(shown: &[Shown], one: usize, other: usize) -> Drawn {
+    let (from, to) = if shown[one].column < shown[other].column { (one, other) } else { (other, one) };
+    let turn = shown[from].column == shown[to].column;
+    let title = format!("{} and {} are concurrent", shown[one].mark.id, shown[other].mark.id);
+    Drawn { class: "pair", join: Join { from, to, turn }, title }
+}
+
+/// The line along its corners.
+pub fn drawn_line(line: &Drawn, corners: &[(i64, i64)]) -> String {
+    format!("<path class=\"{}\" d=\"{}\"><title>{}</title></path>\n", line.class, rounded(corners), line.title)
+}
+
+/// A path through corners, each rounded as far as its sides allow.
+fn rounded(corners: &[(i64, i64)]) -> String {
+    let mut path = format!("M {} {}", corners[0].0, corners[0].1);
+    for side in corners.windows(3) {
+        let reach = BEND.min(length(side[0], side[1]) / 2).min(length(side[1], side[2]) / 2);
+        let ((a, b), (x, y), (c, d)) = (toward(side[1], side[0], reach), side[1], toward(side[1], side[2], reach));
+        path += &if reach > 0 { format!(" L {a} {b} Q {x} {y} {c} {d}") } else { format!(" L {x} {y}") };
+    }
+    let (x, y) = corners[corners.len() - 1];
+    format!("{path} L {x} {y}")
+}
+
+/// How long a side is; it is level or upright.
+fn length(a: (i64, i64), b: (i64, i64)) -> i64 {
+    (a.0 - b.0).abs() + (a.1 - b.1).abs()
+}
+
+/// The point so far from one corner toward the next.
+fn toward(a: (i64, i64), b: (i64, i64), reach: i64) -> (i64, i64) {
+    (a.0 + (b.0 - a.0).signum() * reach, a.1 + (b.1 - a.1).signum() * reach)
+}

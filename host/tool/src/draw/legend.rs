@@ -1,0 +1,131 @@
+//! What the picture says below: a sample of each sort of box and line that occurs in it, and its notes.
+use std::fmt::Write;
+
+use super::arrows::Drawn;
+use super::boxes::{is_click, labelled_box, least_width, noted, Label};
+use super::layout::{Kind, Layout};
+use super::sizes::width_of;
+use super::svg::Picture;
+use super::why::Why;
+
+/// Half the width of a sample, and what is free behind its meaning.
+const HALF: i64 = 20;
+const BETWEEN: i64 = 22;
+
+enum Sort {
+    /// A box of a class, half its width, and whether it is framed.
+    Box(&'static str, i64, bool),
+    Line(&'static str),
+    Note,
+}
+
+/// A sort of box or line, and what it means.
+struct Sample {
+    sort: Sort,
+    meaning: String,
+}
+
+/// The samples and notes of a picture.
+pub struct Legend<'a> {
+    samples: Vec<Sample>,
+    notes: Vec<String>,
+    picture: &'a Picture,
+}
+
+impl Legend<'_> {
+    pub fn new<'a>(layout: &Layout, lines: &[Drawn], picture: &'a Picture) -> Legend<'a> {
+        let mut samples = boxes(layout, picture);
+        samples.extend(line_samples(lines, picture));
+        if layout.shown.iter().any(|shown| !shown.unseen.is_empty()) {
+            samples.push(Sample { sort: Sort::Note, meaning: "entries whose marks are shown nowhere".into() });
+        }
+        let order = match picture.once {
+            true => "Each mark once, from left to right in its desk's order.",
+            false => "Each desk from left to right in its own order.",
+        };
+        let notes = std::iter::once(order.to_string()).chain(picture.why.as_ref().map(Why::sentence)).collect();
+        Legend { samples, notes, picture }
+    }
+
+    /// The width that the longest note needs.
+    pub fn least_width(&self) -> i64 {
+        self.notes.iter().map(|note| width_of(note, self.picture.sizes.note)).max().unwrap_or(0) + 40
+    }
+
+    /// The legend below a height, in rows of a width, and where it ends.
+    pub fn text(&self, top: i64, width: i64) -> (String, i64) {
+        let sizes = self.picture.sizes;
+        let row = sizes.text * 5 / 2;
+        let mut text = String::from("<g class=\"legend\">\n");
+        let (mut x, mut y) = (20, top + row);
+        for sample in &self.samples {
+            let takes = 2 * HALF + 8 + width_of(&sample.meaning, sizes.text);
+            if x > 20 && x + takes > width - 16 {
+                (x, y) = (20, y + row);
+            }
+            text += &self.sample(sample, (x + HALF, y));
+            x += takes + BETWEEN;
+        }
+        for note in &self.notes {
+            y += sizes.note * 2;
+            let _ = writeln!(text, "<text class=\"note\" x=\"20\" y=\"{}\">{note}</text>", y + sizes.note / 2);
+        }
+        (text + "</g>\n", y + sizes.note * 3 / 2)
+    }
+
+    fn sample(&self, sample: &Sample, (x, y): (i64, i64)) -> String {
+        let (sizes, meaning) = (self.picture.sizes, &sample.meaning);
+        let drawn = match sample.sort {
+            Sort::Box(class, half, chosen) => {
+                let label = Label { name: "a.n", title: meaning, class };
+                labelled_box((x, y), (half, sizes.text * 3 / 4), label, chosen, sizes)
+            }
+            Sort::Line(class) => format!("<path class=\"{class}\" d=\"M {} {y} H {}\"/>\n", x - HALF, x + HALF),
+            Sort::Note => noted(x, y - sizes.note + 2, (HALF, sizes.note + 4), &["a.n".to_string()], meaning, sizes),
+        };
+        let (x, y) = (x + HALF + 8, y + sizes.text * 3 / 8);
+        format!("{drawn}<text x=\"{x}\" y=\"{y}\">{meaning}</text>\n")
+    }
+}
+
+/// The sorts of boxes in the picture.
+fn boxes(layout: &Layout, picture: &Picture) -> Vec<Sample> {
+    let sample =
+        |class, half, chosen, meaning: &str| Sample { sort: Sort::Box(class, half, chosen), meaning: meaning.into() };
+    let has = |kind: Kind| layout.shown.iter().any(|shown| shown.kind == kind);
+    let strange = if picture.once { ", made at no desk" } else { "" };
+    let mut samples = Vec::new();
+    for (kind, class, meaning) in [
+        (Kind::Made, "made", "made here".to_string()),
+        (Kind::Executed, "executed", format!("executed here{strange}")),
+        (Kind::Waiting, "waiting", format!("waiting here{strange}")),
+    ] {
+        samples.extend(has(kind).then(|| sample(class, HALF, false, &meaning)));
+    }
+    if let Some((mark, others)) = &picture.pairs {
+        samples.push(sample("made", HALF, true, &format!("mark {mark}")));
+        let apart = sample("made apart", HALF, false, &format!("concurrent with {mark}"));
+        samples.extend((!others.is_empty()).then_some(apart));
+    }
+    if picture.why.as_ref().is_some_and(Why::has_chain) {
+        samples.push(sample("made chain", HALF, false, "in the chain"));
+    }
+    if layout.shown.iter().any(is_click) {
+        samples.push(sample("executed", least_width("a.n", picture.sizes), false, "a click"));
+    }
+    samples
+}
+
+/// The sorts of lines in the picture.
+fn line_samples(lines: &[Drawn], picture: &Picture) -> Vec<Sample> {
+    let joins =
+        picture.pairs.as_ref().map_or(String::new(), |(mark, _)| format!("joins {mark} and one concurrent with it"));
+    let sorts = [
+        ("entry", "from an entry of a stamp to its mark".to_string()),
+        ("entry link", "the same, in the chain".to_string()),
+        ("pair", joins),
+    ];
+    let occurs = |class: &str| lines.iter().any(|line| line.class == class);
+    let samples = sorts.into_iter().filter(|(class, _)| occurs(class));
+    samples.map(|(class, meaning)| Sample { sort: Sort::Line(class), meaning }).collect()
+}

@@ -1,0 +1,264 @@
+//! Where the lines between boxes run: in the gutters between columns and the channels between desks' lines, each in a track
+//! of its own, so that none passes a box that it does not join and no two run over each other.
+use std::collections::BTreeMap;
+
+use super::sizes::Sizes;
+
+/// A box, as far as lines go: where it stands, half its width and height at least, and what it takes besides.
+pub struct Place {
+    pub line: usize,
+    pub column: usize,
+    pub half: (i64, i64),
+    /// What a frame around it adds on each side, and half the width and the height of a note below it.
+    pub frame: i64,
+    pub note: (i64, i64),
+}
+
+/// A line from the right edge of a box to the left edge of another; `turn`: to its right edge.
+#[derive(Clone, Copy)]
+pub struct Join {
+    pub from: usize,
+    pub to: usize,
+    pub turn: bool,
+}
+
+/// The picture measured: the middles of columns and lines, half the height of each box, and the corners of each line's path.
+pub struct Grid {
+    pub columns: Vec<i64>,
+    pub lines: Vec<i64>,
+    pub heights: Vec<i64>,
+    pub paths: Vec<Vec<(i64, i64)>>,
+    pub right: i64,
+    pub bottom: i64,
+}
+
+/// A stretch of a line in a gutter: it comes to it from the left at one height and leaves it to the right at the other.
+struct Vertical {
+    gutter: usize,
+    comes: i64,
+    leaves: i64,
+}
+
+impl Vertical {
+    fn span(&self) -> (i64, i64) {
+        (self.comes.min(self.leaves), self.comes.max(self.leaves))
+    }
+
+    fn meets(&self, y: i64) -> bool {
+        let (top, bottom) = self.span();
+        (top..=bottom).contains(&y)
+    }
+}
+
+/// The lines that end at an edge of a box, by box and whether it is the right edge.
+type Edges = BTreeMap<(usize, bool), Vec<usize>>;
+
+/// The plan of a picture while it is measured.
+pub struct Plan<'a> {
+    pub places: &'a [Place],
+    pub joins: &'a [Join],
+    pub sizes: &'a Sizes,
+    /// How many lines and columns there are, and where the first ones start.
+    pub lines: usize,
+    pub columns: usize,
+    pub left: i64,
+    pub top: i64,
+}
+
+impl Plan<'_> {
+    pub fn route(&self) -> Grid {
+        let edges = self.edges();
+        let heights = self.heights(&edges);
+        let lanes = self.lanes();
+        let (lines, lanes, bottom) = self.rows(&heights, &lanes);
+        let ends = self.ends(edges, &heights, &lines, &lanes);
+        let verticals = self.verticals(&lanes, &ends);
+        let tracks = self.tracks(&verticals);
+        let (columns, gutters, right) = self.gutters(&verticals, &tracks);
+        let x = |i: usize| gutters[verticals[i].gutter] + self.sizes.track * tracks[i] as i64;
+        let mut next = 0;
+        let mut paths = Vec::new();
+        for (join, &(leave, arrive)) in ends.iter().enumerate() {
+            let (start, end) = self.outer(&columns, &self.joins[join]);
+            let mut path = vec![(start, leave), (x(next), leave)];
+            if let Some(lane) = lanes[join] {
+                path.extend([(x(next), lane), (x(next + 1), lane)]);
+                next += 1;
+            }
+            path.extend([(x(next), arrive), (end, arrive)]);
+            next += 1;
+            paths.push(path);
+        }
+        Grid { columns, lines, heights, paths, right, bottom }
+    }
+
+    /// The gutter to the left of a column has the column's number. Where a line leaves, and where it arrives.
+    fn gutters_of(&self, join: &Join) -> (usize, usize) {
+        let arrives = self.places[join.to].column + usize::from(join.turn);
+        (self.places[join.from].column + 1, arrives)
+    }
+
+    fn edges(&self) -> Edges {
+        let mut edges = Edges::new();
+        for (i, join) in self.joins.iter().enumerate() {
+            edges.entry((join.from, true)).or_default().push(i);
+            edges.entry((join.to, join.turn)).or_default().push(i);
+        }
+        edges
+    }
+
+    /// Half the height of each box: each line that ends there has its own point.
+    fn heights(&self, edges: &Edges) -> Vec<i64> {
+        let mut heights: Vec<i64> = self.places.iter().map(|place| place.half.1).collect();
+        for ((place, _), ends) in edges {
+            heights[*place] = heights[*place].max(self.sizes.step * (ends.len() as i64 + 1));
+        }
+        heights
+    }
+
+    /// The channel and the lane of each line that passes columns: beside the line of the box at which it ends.
+    fn lanes(&self) -> Vec<Option<(usize, usize)>> {
+        let mut channels: BTreeMap<usize, Vec<(usize, (i64, i64))>> = BTreeMap::new();
+        for (i, join) in self.joins.iter().enumerate() {
+            let (leaves, arrives) = self.gutters_of(join);
+            let (from, to) = (self.places[join.from].line, self.places[join.to].line);
+            if leaves != arrives {
+                let span = (leaves.min(arrives) as i64, leaves.max(arrives) as i64);
+                channels.entry(if from > to { to + 1 } else { to }).or_default().push((i, span));
+            }
+        }
+        let mut lanes = vec![None; self.joins.len()];
+        for (channel, spans) in channels {
+            let found = apart(&spans, 0);
+            found.into_iter().for_each(|(join, lane)| lanes[join] = Some((channel, lane)));
+        }
+        lanes
+    }
+
+    /// The heights of the desks' lines and of the lanes, and where the last line ends.
+    fn rows(&self, heights: &[i64], lanes: &[Option<(usize, usize)>]) -> (Vec<i64>, Vec<Option<i64>>, i64) {
+        let mut above = vec![self.sizes.first.1; self.lines];
+        let mut below = above.clone();
+        for (place, height) in self.places.iter().zip(heights) {
+            above[place.line] = above[place.line].max(height + place.frame);
+            below[place.line] = below[place.line].max(height + place.frame + place.note.1);
+        }
+        let mut tops = vec![self.top];
+        let mut lines = Vec::new();
+        for line in 0..=self.lines {
+            let used = lanes.iter().flatten().filter(|lane| lane.0 == line).map(|lane| lane.1 + 1).max().unwrap_or(0);
+            let middle = tops[line] + self.sizes.clear + self.sizes.track * used as i64 + above.get(line).unwrap_or(&0);
+            lines.push(middle);
+            tops.push(middle + below.get(line).unwrap_or(&0) + self.sizes.clear);
+        }
+        let bottom = lines.pop().unwrap_or(self.top);
+        let lane = |(channel, lane): (usize, usize)| tops[channel] + self.sizes.track * lane as i64;
+        (lines, lanes.iter().map(|found| found.map(lane)).collect(), bottom)
+    }
+
+    /// At which heights each line leaves and arrives: arrivals in the upper half of left edges, departures in the lower half
+    /// of right ones, from top to bottom as they come and go.
+    fn ends(&self, edges: Edges, heights: &[i64], lines: &[i64], lanes: &[Option<i64>]) -> Vec<(i64, i64)> {
+        let mut ends = vec![(0, 0); self.joins.len()];
+        for ((place, right), mut joins) in edges {
+            let other = |join: &Join| if join.from == place { join.to } else { join.from };
+            joins.sort_by_key(|&i| lanes[i].unwrap_or(lines[self.places[other(&self.joins[i])].line]));
+            let (middle, height, count) = (lines[self.places[place].line], heights[place], joins.len() as i64 + 1);
+            let point = |at: i64| middle + height * at / count - if right { 0 } else { height };
+            joins.into_iter().zip(1..).for_each(|(i, at)| match self.joins[i].from == place && right {
+                true => ends[i].0 = point(at),
+                false => ends[i].1 = point(at),
+            });
+        }
+        ends
+    }
+
+    /// One stretch for each line that stays in a gutter, two for each that has a lane.
+    fn verticals(&self, lanes: &[Option<i64>], ends: &[(i64, i64)]) -> Vec<Vertical> {
+        let mut verticals = Vec::new();
+        for (i, join) in self.joins.iter().enumerate() {
+            let ((leaves, arrives), (from, to)) = (self.gutters_of(join), ends[i]);
+            verticals.push(Vertical { gutter: leaves, comes: from, leaves: lanes[i].unwrap_or(to) });
+            verticals.extend(lanes[i].map(|lane| Vertical { gutter: arrives, comes: lane, leaves: to }));
+        }
+        verticals
+    }
+
+    /// The track of each stretch in its gutter.
+    fn tracks(&self, verticals: &[Vertical]) -> Vec<usize> {
+        let mut tracks = vec![0; verticals.len()];
+        for gutter in 0..=self.columns {
+            let within: Vec<usize> = (0..verticals.len()).filter(|&i| verticals[i].gutter == gutter).collect();
+            let spans: Vec<(usize, (i64, i64))> = within.iter().map(|&i| (i, verticals[i].span())).collect();
+            apart(&spans, self.sizes.track).into_iter().for_each(|(i, track)| tracks[i] = track);
+            untangle(verticals, &within, &mut tracks);
+        }
+        tracks
+    }
+
+    /// The middles of the columns, the first tracks of the gutters, and where the last gutter ends.
+    fn gutters(&self, verticals: &[Vertical], tracks: &[usize]) -> (Vec<i64>, Vec<i64>, i64) {
+        let mut used = vec![0; self.columns + 1];
+        verticals.iter().zip(tracks).for_each(|(v, track)| used[v.gutter] = used[v.gutter].max(track + 1));
+        let mut halves = vec![0; self.columns];
+        self.places.iter().for_each(|p| halves[p.column] = halves[p.column].max(p.half.0 + p.frame).max(p.note.0));
+        let (mut columns, mut gutters, mut x) = (Vec::new(), Vec::new(), self.left);
+        for gutter in 0..=self.columns {
+            gutters.push(x + self.sizes.leave);
+            x += self.sizes.leave + self.sizes.arrive + self.sizes.track * (used[gutter] as i64 - 1).max(0);
+            let half = halves.get(gutter).copied().unwrap_or(0);
+            columns.push(x + half);
+            x += 2 * half;
+        }
+        columns.pop();
+        (columns, gutters, x)
+    }
+
+    /// Where a line leaves the one box, and where it reaches the other.
+    fn outer(&self, columns: &[i64], join: &Join) -> (i64, i64) {
+        let edge = |at: usize| self.places[at].half.0 + self.places[at].frame;
+        let (from, to) = (columns[self.places[join.from].column], columns[self.places[join.to].column]);
+        let side = if join.turn { 1 } else { -1 };
+        (from + edge(join.from), to + side * (edge(join.to) + 1))
+    }
+}
+
+/// Gives each span the lowest track in which it meets no other: more than `gap` lies between two of one track.
+fn apart(spans: &[(usize, (i64, i64))], gap: i64) -> Vec<(usize, usize)> {
+    let mut order: Vec<&(usize, (i64, i64))> = spans.iter().collect();
+    order.sort_by_key(|(i, span)| (*span, *i));
+    let mut ends: Vec<i64> = Vec::new();
+    let mut found = Vec::new();
+    for (i, (start, end)) in order {
+        let track = ends.iter().position(|last| last + gap < *start).unwrap_or(ends.len());
+        ends.resize(ends.len().max(track + 1), *end);
+        ends[track] = *end;
+        found.push((*i, track));
+    }
+    found
+}
+
+/// Exchanges neighbouring tracks of a gutter as long as fewer lines cross for it.
+fn untangle(verticals: &[Vertical], within: &[usize], tracks: &mut [usize]) {
+    let count = within.iter().map(|&i| tracks[i] + 1).max().unwrap_or(0);
+    let mut left = 4 * count * count;
+    let mut at = 0;
+    while at + 1 < count && left > 0 {
+        left -= 1;
+        let on = |track: usize| within.iter().copied().filter(|&i| tracks[i] == track).collect::<Vec<_>>();
+        let (a, b) = (on(at), on(at + 1));
+        if crossings(verticals, &b, &a) < crossings(verticals, &a, &b) {
+            a.iter().for_each(|&i| tracks[i] = at + 1);
+            b.iter().for_each(|&i| tracks[i] = at);
+            at = at.saturating_sub(1);
+        } else {
+            at += 1;
+        }
+    }
+}
+
+/// How often lines of two tracks cross, the first to the left of the second.
+fn crossings(verticals: &[Vertical], first: &[usize], second: &[usize]) -> usize {
+    let cross = |a: &Vertical, b: &Vertical| usize::from(b.meets(a.leaves)) + usize::from(a.meets(b.comes));
+    first.iter().map(|&a| second.iter().map(|&b| cross(&verticals[a], &verticals[b])).sum::<usize>()).sum()
+}
