@@ -1,6 +1,7 @@
 //! The arrows from entries to marks, and the broken lines of concurrent pairs.
 use super::layout::{Layout, Shown};
 use super::route::Join;
+use super::sizes::Sizes;
 use super::svg::Picture;
 
 /// How far a line's corners are rounded.
@@ -41,8 +42,21 @@ fn pair(shown: &[Shown], one: usize, other: usize) -> Drawn {
 }
 
 /// The line along its corners.
-pub fn drawn_line(line: &Drawn, corners: &[(i64, i64)]) -> String {
-    format!("<path class=\"{}\" d=\"{}\"><title>{}</title></path>\n", line.class, rounded(corners), line.title)
+pub fn drawn_line(line: &Drawn, corners: &[(i64, i64)], sizes: &Sizes) -> String {
+    drawn_path(line.class, corners, &line.title, sizes)
+}
+
+/// A path of a class. The head of an arrow takes the last of it.
+pub fn drawn_path(class: &str, corners: &[(i64, i64)], title: &str, sizes: &Sizes) -> String {
+    let head = match class {
+        "entry" => sizes.head,
+        "entry link" => sizes.heavy_head,
+        _ => 0,
+    };
+    let mut corners = corners.to_vec();
+    let last = corners.len() - 1;
+    corners[last].0 -= head;
+    format!("<path class=\"{class}\" d=\"{}\"><title>{title}</title></path>\n", rounded(&corners))
 }
 
 /// A path through corners, each rounded as far as its sides allow.

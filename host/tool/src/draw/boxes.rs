@@ -3,11 +3,14 @@ use kaungimewe::PastCount;
 
 use super::layout::{Kind, Named, Shown};
 use super::route::{Grid, Place};
-use super::sizes::{width_of, Sizes};
+use super::sizes::{name_rows, width_of, Sizes};
 use super::svg::Picture;
 
 /// What a frame adds to a box on each side.
 const FRAME: i64 = 4;
+/// What a note takes besides its rows, and how much of it is between the box and the note.
+const NOTE: i64 = 8;
+const ABOVE_NOTE: i64 = 3;
 
 /// Is the mark boxed as one instant?
 pub fn is_click(shown: &Shown) -> bool {
@@ -16,7 +19,7 @@ pub fn is_click(shown: &Shown) -> bool {
 
 /// Half the width of a click's box: as its name needs, and less than that of every other box.
 pub fn least_width(name: &str, sizes: &Sizes) -> i64 {
-    sizes.letter * name.len() as i64
+    sizes.letter * name_rows(name, sizes).iter().map(|row| row.len() as i64).max().unwrap_or(0)
 }
 
 /// Half the width and half the height of a box at least: a mark's first one is larger, a click's is narrow.
@@ -31,7 +34,7 @@ pub fn place(shown: &Shown, picture: &Picture) -> Place {
     let frame = if picture.is_chosen(shown) { FRAME } else { 0 };
     let rows = note_rows(shown);
     let width = rows.iter().map(|row| width_of(row, picture.sizes.note)).max().map_or(0, |w| w / 2 + 3);
-    let note = (width, row_height(picture.sizes) * rows.len() as i64 + if rows.is_empty() { 0 } else { 8 });
+    let note = (width, row_height(picture.sizes) * rows.len() as i64 + if rows.is_empty() { 0 } else { NOTE });
     Place { line: shown.line, column: shown.column, half: half(shown, picture.sizes), frame, note }
 }
 
@@ -51,11 +54,11 @@ fn note_rows(shown: &Shown) -> Vec<String> {
 
 /// A mark's box, with its note.
 pub fn mark_box(at: usize, shown: &Shown, place: &Place, grid: &Grid, picture: &Picture) -> String {
-    let (x, y) = (grid.columns[shown.column], grid.lines[shown.line]);
+    let (x, y) = (grid.middles[at], grid.lines[shown.line]);
     let half = (place.half.0, grid.heights[at]);
     let label = Label { name: &shown.mark.id.to_string(), title: &title(shown), class: &class_of(shown, picture) };
     let sizes = picture.sizes;
-    let note = note(x, y + half.1 + place.frame + 3, place.note, &note_rows(shown), shown, sizes);
+    let note = note(x, y + half.1 + place.frame + ABOVE_NOTE, place.note, &note_rows(shown), shown, sizes);
     labelled_box((x, y), half, label, picture.is_chosen(shown), sizes) + &note
 }
 
@@ -98,14 +101,17 @@ fn rect(class: &str, (x, y): (i64, i64), (w, h): (i64, i64)) -> String {
 pub fn labelled_box(middle: (i64, i64), (w, h): (i64, i64), label: Label, chosen: bool, sizes: &Sizes) -> String {
     let Label { name, title, class } = label;
     let frame = if chosen { rect("frame", middle, (w + FRAME, h + FRAME)) } else { String::new() };
-    let plate = rect("plate", middle, (least_width(name, sizes).min(w - 2), sizes.text * 5 / 8));
-    format!(
-        "<g class=\"{class}\"><title>{title}</title>{}{plate}{frame}\
-         <text class=\"name\" x=\"{}\" y=\"{}\">{name}</text></g>\n",
-        rect("box", middle, (w, h)),
-        middle.0,
-        middle.1 + sizes.text * 3 / 8
-    )
+    let rows = name_rows(name, sizes);
+    let high = rows.len() as i64 * sizes.text;
+    let plate = rect("plate", middle, (least_width(name, sizes).min(w - 2), (high / 2 + 2).min(h - 3)));
+    let text: String =
+        rows.iter().zip(0..).map(|(row, at)| name_row(row, middle, at * sizes.text - high / 2, sizes)).collect();
+    format!("<g class=\"{class}\"><title>{title}</title>{}{plate}{frame}{text}</g>\n", rect("box", middle, (w, h)))
+}
+
+/// A row of a name, so far below the middle of its box.
+fn name_row(row: &str, (x, y): (i64, i64), below: i64, sizes: &Sizes) -> String {
+    format!("<text class=\"name\" x=\"{x}\" y=\"{}\">{row}</text>", y + below + sizes.text * 7 / 8)
 }
 
 /// The note below a box, where there is one.
@@ -115,16 +121,17 @@ fn note(x: i64, top: i64, (half, height): (i64, i64), rows: &[String], shown: &S
     }
     let names: String = shown.unseen.iter().map(|entry| format!(" {entry}")).collect();
     let title = format!("entries of {} whose marks are shown nowhere:{names}", shown.mark.id);
-    noted(x, top, (half, height - 5), rows, &title, sizes)
+    noted(x, top, (half, height - ABOVE_NOTE), rows, &title, sizes)
 }
 
 /// Rows of small text in a dotted outline.
 pub fn noted(x: i64, top: i64, (half, height): (i64, i64), rows: &[String], title: &str, sizes: &Sizes) -> String {
     let line = |(row, text): (i64, &String)| {
-        format!("<text class=\"name note\" x=\"{x}\" y=\"{}\">{text}</text>", top + row_height(sizes) * row)
+        format!("<text class=\"name note\" x=\"{x}\" y=\"{}\">{text}</text>", top + row_height(sizes) * row - 1)
     };
     let text: String = (1..).zip(rows).map(line).collect();
-    let outline = rect("outline", (x, top + height / 2), (half, height / 2));
+    let outline =
+        format!("<rect class=\"outline\" x=\"{}\" y=\"{top}\" width=\"{}\" height=\"{height}\"/>", x - half, 2 * half);
     format!("<g class=\"unseen\"><title>{title}</title>{outline}{text}</g>\n")
 }
 

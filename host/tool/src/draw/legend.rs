@@ -1,15 +1,16 @@
 //! What the picture says below: a sample of each sort of box and line that occurs in it, and its notes.
 use std::fmt::Write;
 
-use super::arrows::Drawn;
+use super::arrows::{drawn_path, Drawn};
 use super::boxes::{is_click, labelled_box, least_width, noted, Label};
 use super::layout::{Kind, Layout};
-use super::sizes::width_of;
+use super::sizes::{name_rows, width_of};
 use super::svg::Picture;
 use super::why::Why;
 
-/// Half the width of a sample, and what is free behind its meaning.
+/// Half the width of a sample, and what is free behind it and behind its meaning.
 const HALF: i64 = 20;
+const BEHIND: i64 = 12;
 const BETWEEN: i64 = 22;
 
 enum Sort {
@@ -55,22 +56,28 @@ impl Legend<'_> {
     /// The legend below a height, in rows of a width, and where it ends.
     pub fn text(&self, top: i64, width: i64) -> (String, i64) {
         let sizes = self.picture.sizes;
-        let row = sizes.text * 5 / 2;
+        let row = 2 * self.half_height() + sizes.text;
         let mut text = String::from("<g class=\"legend\">\n");
-        let (mut x, mut y) = (20, top + row);
+        let (mut x, mut y) = (20, top + row * 3 / 4);
         for sample in &self.samples {
-            let takes = 2 * HALF + 8 + width_of(&sample.meaning, sizes.text);
+            let takes = 2 * HALF + BEHIND + width_of(&sample.meaning, sizes.text);
             if x > 20 && x + takes > width - 16 {
                 (x, y) = (20, y + row);
             }
             text += &self.sample(sample, (x + HALF, y));
             x += takes + BETWEEN;
         }
+        y += self.half_height() + sizes.note / 2;
         for note in &self.notes {
-            y += sizes.note * 2;
-            let _ = writeln!(text, "<text class=\"note\" x=\"20\" y=\"{}\">{note}</text>", y + sizes.note / 2);
+            y += sizes.note * 3 / 2;
+            let _ = writeln!(text, "<text class=\"note\" x=\"20\" y=\"{y}\">{note}</text>");
         }
-        (text + "</g>\n", y + sizes.note * 3 / 2)
+        (text + "</g>\n", y + sizes.note)
+    }
+
+    /// Half the height of a sample's box.
+    fn half_height(&self) -> i64 {
+        self.picture.sizes.text * name_rows("a.n", self.picture.sizes).len() as i64 / 2 + 3
     }
 
     fn sample(&self, sample: &Sample, (x, y): (i64, i64)) -> String {
@@ -78,12 +85,14 @@ impl Legend<'_> {
         let drawn = match sample.sort {
             Sort::Box(class, half, chosen) => {
                 let label = Label { name: "a.n", title: meaning, class };
-                labelled_box((x, y), (half, sizes.text * 3 / 4), label, chosen, sizes)
+                labelled_box((x, y), (half, self.half_height()), label, chosen, sizes)
             }
-            Sort::Line(class) => format!("<path class=\"{class}\" d=\"M {} {y} H {}\"/>\n", x - HALF, x + HALF),
-            Sort::Note => noted(x, y - sizes.note + 2, (HALF, sizes.note + 4), &["a.n".to_string()], meaning, sizes),
+            Sort::Line(class) => drawn_path(class, &[(x - HALF, y), (x + HALF, y)], meaning, sizes),
+            Sort::Note => {
+                noted(x, y - sizes.note / 2 - 3, (HALF, sizes.note + 6), &["a.n".to_string()], meaning, sizes)
+            }
         };
-        let (x, y) = (x + HALF + 8, y + sizes.text * 3 / 8);
+        let (x, y) = (x + HALF + BEHIND, y + sizes.text * 3 / 8);
         format!("{drawn}<text x=\"{x}\" y=\"{y}\">{meaning}</text>\n")
     }
 }

@@ -22,10 +22,11 @@ pub struct Join {
     pub turn: bool,
 }
 
-/// The picture measured: the middles of columns and lines, half the height of each box, and the corners of each line's path.
+/// The picture measured: the heights of the desks' lines, the middle and half the height of each box, and the corners of the
+/// path of each line between boxes.
 pub struct Grid {
-    pub columns: Vec<i64>,
     pub lines: Vec<i64>,
+    pub middles: Vec<i64>,
     pub heights: Vec<i64>,
     pub paths: Vec<Vec<(i64, i64)>>,
     pub right: i64,
@@ -74,22 +75,25 @@ impl Plan<'_> {
         let ends = self.ends(edges, &heights, &lines, &lanes);
         let verticals = self.verticals(&lanes, &ends);
         let tracks = self.tracks(&verticals);
-        let (columns, gutters, right) = self.gutters(&verticals, &tracks);
-        let x = |i: usize| gutters[verticals[i].gutter] + self.sizes.track * tracks[i] as i64;
-        let mut next = 0;
+        let (middles, stretches, right) = self.gutters(&verticals, &tracks);
+        let mut stretches = stretches.into_iter();
         let mut paths = Vec::new();
         for (join, &(leave, arrive)) in ends.iter().enumerate() {
-            let (start, end) = self.outer(&columns, &self.joins[join]);
-            let mut path = vec![(start, leave), (x(next), leave)];
-            if let Some(lane) = lanes[join] {
-                path.extend([(x(next), lane), (x(next + 1), lane)]);
-                next += 1;
-            }
-            path.extend([(x(next), arrive), (end, arrive)]);
-            next += 1;
+            let (start, end) = self.outer(&middles, &self.joins[join]);
+            let mut path = vec![(start, leave)];
+            let heights = [Some(leave), lanes[join], Some(arrive)];
+            let heights: Vec<i64> = heights.into_iter().flatten().collect();
+            let sides = heights.windows(2).zip(&mut stretches);
+            path.extend(sides.flat_map(|(side, x)| [(x, side[0]), (x, side[1])]));
+            path.push((end, arrive));
             paths.push(path);
         }
-        Grid { columns, lines, heights, paths, right, bottom }
+        Grid { lines, middles, heights, paths, right, bottom }
+    }
+
+    /// Half of what a box takes from left to right.
+    fn reach(place: &Place) -> i64 {
+        (place.half.0 + place.frame).max(place.note.0)
     }
 
     /// The gutter to the left of a column has the column's number. Where a line leaves, and where it arrives.
@@ -196,30 +200,30 @@ impl Plan<'_> {
         tracks
     }
 
-    /// The middles of the columns, the first tracks of the gutters, and where the last gutter ends.
+    /// The middle of each box, in columns with gutters as wide as their tracks need, where each stretch stands,
+    /// and where the last gutter ends.
     fn gutters(&self, verticals: &[Vertical], tracks: &[usize]) -> (Vec<i64>, Vec<i64>, i64) {
         let mut used = vec![0; self.columns + 1];
         verticals.iter().zip(tracks).for_each(|(v, track)| used[v.gutter] = used[v.gutter].max(track + 1));
-        let mut halves = vec![0; self.columns];
-        self.places.iter().for_each(|p| halves[p.column] = halves[p.column].max(p.half.0 + p.frame).max(p.note.0));
+        let mut halves = vec![0; self.columns + 1];
+        self.places.iter().for_each(|p| halves[p.column] = halves[p.column].max(Self::reach(p)));
         let (mut columns, mut gutters, mut x) = (Vec::new(), Vec::new(), self.left);
-        for gutter in 0..=self.columns {
+        for (used, half) in used.into_iter().zip(halves) {
             gutters.push(x + self.sizes.leave);
-            x += self.sizes.leave + self.sizes.arrive + self.sizes.track * (used[gutter] as i64 - 1).max(0);
-            let half = halves.get(gutter).copied().unwrap_or(0);
-            columns.push(x + half);
-            x += 2 * half;
+            x += self.sizes.leave + self.sizes.arrive + self.sizes.track * (used as i64 - 1).max(0) + half;
+            columns.push(x);
+            x += half;
         }
-        columns.pop();
-        (columns, gutters, x)
+        let stretches = verticals.iter().zip(tracks);
+        let stretches = stretches.map(|(v, &track)| gutters[v.gutter] + self.sizes.track * track as i64);
+        (self.places.iter().map(|place| columns[place.column]).collect(), stretches.collect(), x)
     }
 
     /// Where a line leaves the one box, and where it reaches the other.
-    fn outer(&self, columns: &[i64], join: &Join) -> (i64, i64) {
+    fn outer(&self, middles: &[i64], join: &Join) -> (i64, i64) {
         let edge = |at: usize| self.places[at].half.0 + self.places[at].frame;
-        let (from, to) = (columns[self.places[join.from].column], columns[self.places[join.to].column]);
         let side = if join.turn { 1 } else { -1 };
-        (from + edge(join.from), to + side * (edge(join.to) + 1))
+        (middles[join.from] + edge(join.from), middles[join.to] + side * (edge(join.to) + 2))
     }
 }
 

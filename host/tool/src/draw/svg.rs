@@ -51,7 +51,7 @@ impl Picture {
         for (named, &y) in layout.desks.iter().zip(&grid.lines) {
             svg += &desk_line(named, y, (margin, width - margin), sizes);
         }
-        svg.extend(drawn.iter().zip(&grid.paths).map(|(line, corners)| drawn_line(line, corners)));
+        svg.extend(drawn.iter().zip(&grid.paths).map(|(line, corners)| drawn_line(line, corners, sizes)));
         for (at, (shown, place)) in layout.shown.iter().zip(&places).enumerate() {
             svg += &mark_box(at, shown, place, &grid, self);
         }
@@ -80,9 +80,11 @@ impl Picture {
             "<style>\n{page}text {{ font-family: Helvetica, Arial, sans-serif; font-size: {text}px; fill: black }}\n\
              {STYLE}.note {{ font-size: {note}px }}\n.made .box {{ stroke-width: {} }}\n\
              .entry {{ stroke: black; stroke-width: {stroke}; fill: none; marker-end: url(#head) }}\n\
-             .pair {{ stroke: black; stroke-width: {stroke}; stroke-dasharray: 7 5; fill: none }}\n</style>\n<defs>\n{}\
+             .pair {{ stroke: black; stroke-width: {stroke}; stroke-dasharray: {} {}; fill: none }}\n</style>\n<defs>\n{}\
              {HATCH}</defs>\n{heavy}",
             2.0 * stroke,
+            head,
+            head * 2 / 3,
             marker("head", *head)
         )
     }
@@ -111,14 +113,14 @@ fn heavy(sizes: &Sizes) -> String {
          .link {{ stroke-width: {}; marker-end: url(#bold) }}\n</style>\n<defs>\n{}</defs>\n",
         4.0 * sizes.stroke,
         2.5 * sizes.stroke,
-        marker("bold", 1.4 * sizes.head)
+        marker("bold", sizes.heavy_head)
     )
 }
 
-/// The head of an arrow, so long; its tip is where the line ends.
-fn marker(id: &str, length: f64) -> String {
+/// The head of an arrow, so long, where its line ends.
+fn marker(id: &str, length: i64) -> String {
     format!(
-        "<marker id=\"{id}\" viewBox=\"0 0 10 10\" refX=\"10\" refY=\"5\" markerUnits=\"userSpaceOnUse\" \
+        "<marker id=\"{id}\" viewBox=\"0 0 10 10\" refX=\"0\" refY=\"5\" markerUnits=\"userSpaceOnUse\" \
          markerWidth=\"{length}\" markerHeight=\"{length}\" orient=\"auto\"><path d=\"M 0 1.5 L 10 5 L 0 8.5 z\"/></marker>\n"
     )
 }
