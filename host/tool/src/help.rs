@@ -5,7 +5,8 @@ pub const TOOL: &str = "\
 kaungimewe: desks of the proved causality engine, at a terminal
 
   ./kaungimewe run [--explain] [FILE]                            a script of calls, one answer a line
-  ./kaungimewe draw [--apart A.N] [--why A.N,B.M] [FILE] > SVG   the same script as a picture
+  ./kaungimewe draw [--apart A.N] [--why A.N,B.M] [--made]
+                    [FILE] > SVG                                 the same script as a picture
   ./kaungimewe pairs [--desk D] [FILE] > CSV                     how many pairs of marks each two observers made apart
   ./kaungimewe save D [FILE] > SCRIPT                            a desk as a script that makes it again
   ./kaungimewe bench [--check] [--rounds N] [--seed S]           the engine's times beside those of two others
@@ -92,16 +93,26 @@ before it stands.
 ";
 
 pub const DRAW: &str = "\
-./kaungimewe draw [--apart A.N] [--why A.N,B.M] [FILE] > history.svg
+./kaungimewe draw [--apart A.N] [--why A.N,B.M] [--made] [FILE] > history.svg
 
 Draws the script that `run` answers as an SVG picture: a line for each desk, the marks executed there as boxes from left to
-right in their order, the waiting ones hollow behind them. A bold box is a mark where it was made; an arrow runs to it from
-each entry of its stamp. With --apart, mark A.N is framed, and the marks concurrent with it are hatched and joined to it by
-broken lines. With --why, the chain that shows which of A.N and B.M precedes the other is drawn heavier: its marks where
-they were made, and the arrows between them. Concurrent marks have none; their two counts stand below. It is as the lowest
-desk answers `why` that has executed both marks at the end of the script. A click, which has no width, has a narrow box, as
-wide as its name. Point at a box for its times, or a click's instant, its frequencies, its stamp and its past count, which
-is not said of a waiting mark that came in edition 1.
+right in their order, the waiting ones hollow behind them; a dropped mark is not shown. A bold box is a mark where it was
+made; an arrow runs to it from each entry of its stamp. Arrows leave a box at its right edge below the desk's line, and
+arrive at its left edge above it; they run between the boxes, and none over another. An entry whose mark is shown nowhere
+has no arrow: a note below the box lists all of these. Desks stand by rising number; where a script makes a desk anew with
+a second `new`, each has a line of its own, which says the how-many-th it is, and of all but the last that it is no more.
+
+With --apart, mark A.N is framed, and the marks concurrent with it are hatched and joined to it by broken lines. With --why,
+the chain that shows which of A.N and B.M precedes the other is drawn heavier: its marks where they were made, and the
+arrows between them. Concurrent marks have none; their two counts stand below. It is as the lowest desk answers `why` that
+has executed both marks at the end of the script. With --made, each mark is drawn once, where it was made, with its name in
+two rows and the boxes closer together; a mark that no desk of the script made stands where it was first executed, or else
+where it waits. Such a picture is at most as large as a page of landscape A4: a larger one is scaled down to that. 16 desks
+and 120 marks can be read when printed. It goes with --apart and --why.
+
+A click, which has no width, has a narrow box, as wide as its name. Point at a box for its times, or a click's instant, its
+frequencies, its stamp and its past count, which is not said of a waiting mark that came in edition 1; point at a line for
+the two marks that it joins. The legend has a sample of each sort of box and line that occurs.
 ";
 
 pub const PAIRS: &str = "\
