@@ -99,8 +99,8 @@ Draws the script that `run` answers as an SVG picture: a line for each desk, the
 right in their order, the waiting ones hollow behind them; a dropped mark is not shown. A bold box is a mark where it was
 made; an arrow runs to it from each entry of its stamp. Arrows leave a box at its right edge below the desk's line, and
 arrive at its left edge above it; they run between the boxes, and none over another. An entry whose mark is shown nowhere
-has no arrow: a note below the box lists all of these. Desks stand by rising number; where a script makes a desk anew with
-a second `new`, each has a line of its own, which says the how-many-th it is, and of all but the last that it is no more.
+has no arrow: a note below the box lists all of these. Desks stand by rising number. Where a second `new` has put an empty
+desk in the place of the first, each has a line of its own: `new 1 of 2, no more` and `new 2 of 2`.
 
 With --apart, mark A.N is framed, and the marks concurrent with it are hatched and joined to it by broken lines. With --why,
 the chain that shows which of A.N and B.M precedes the other is drawn heavier: its marks where they were made, and the

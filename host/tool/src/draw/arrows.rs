@@ -1,5 +1,5 @@
 //! The arrows from entries to marks, and the broken lines of concurrent pairs.
-use super::layout::{Layout, Shown};
+use super::layout::{Arrow, Layout, Shown};
 use super::route::Join;
 use super::sizes::Sizes;
 use super::svg::Picture;
@@ -16,21 +16,26 @@ pub struct Drawn {
 
 /// Every arrow, and behind them the broken lines.
 pub fn lines(layout: &Layout, picture: &Picture) -> Vec<Drawn> {
-    let mut lines = Vec::new();
-    for arrow in &layout.arrows {
-        let (from, to) = (&layout.shown[arrow.from], &layout.shown[arrow.to]);
-        let joins = picture.why.as_ref().is_some_and(|why| why.joins(&from.mark, &to.mark));
-        lines.push(Drawn {
-            class: if joins { "entry link" } else { "entry" },
-            join: Join { from: arrow.from, to: arrow.to, turn: false },
-            title: format!("{} is an entry of {}", from.mark.id, to.mark.id),
-        });
+    let shown = &layout.shown;
+    let mut lines: Vec<Drawn> = layout.arrows.iter().map(|arrow| entry(shown, arrow, picture)).collect();
+    let firsts = |wanted: fn(&Picture, &Shown) -> bool| {
+        (0..shown.len()).filter(move |&at| shown[at].first && wanted(picture, &shown[at]))
+    };
+    for one in firsts(Picture::is_chosen) {
+        let others = firsts(Picture::is_apart).filter(|&other| picture.is_pair(&shown[one], &shown[other]));
+        lines.extend(others.map(|other| pair(shown, one, other)));
     }
-    let firsts = || (0..layout.shown.len()).filter(|&at| layout.shown[at].first);
-    let chosen = firsts().filter(|&at| picture.is_chosen(&layout.shown[at]));
-    let others: Vec<usize> = firsts().filter(|&at| picture.is_apart(&layout.shown[at])).collect();
-    lines.extend(chosen.flat_map(|one| others.iter().map(move |&other| pair(&layout.shown, one, other))));
     lines
+}
+
+fn entry(shown: &[Shown], arrow: &Arrow, picture: &Picture) -> Drawn {
+    let (from, to) = (&shown[arrow.from].mark, &shown[arrow.to].mark);
+    let joins = picture.why.as_ref().is_some_and(|why| why.joins(from, to));
+    Drawn {
+        class: if joins { "entry link" } else { "entry" },
+        join: Join { from: arrow.from, to: arrow.to, turn: false },
+        title: format!("{} is an entry of {}", from.id, to.id),
+    }
 }
 
 /// The line of a concurrent pair, from the box further left.

@@ -79,7 +79,7 @@ fn named(lines: &[Line], line: usize) -> Named {
 }
 
 /// Are they one mark? Where `new` has made a desk anew, another may have its name.
-fn same(a: &Mark, b: &Mark) -> bool {
+pub fn same(a: &Mark, b: &Mark) -> bool {
     let unsaid = a.past == PastCount::Unsaid || b.past == PastCount::Unsaid;
     (a.id, a.extent, &a.stamp) == (b.id, b.extent, &b.stamp) && (unsaid || a.past == b.past)
 }

@@ -1,6 +1,5 @@
 //! What the picture says below: a sample of each sort of box and line that occurs in it, and its notes.
-use std::fmt::Write;
-
+use super::apart::Apart;
 use super::arrows::{drawn_path, Drawn};
 use super::boxes::{is_click, labelled_box, least_width, noted, Label};
 use super::layout::{Kind, Layout};
@@ -12,6 +11,8 @@ use super::why::Why;
 const HALF: i64 = 20;
 const BEHIND: i64 = 12;
 const BETWEEN: i64 = 22;
+/// Where a row starts.
+const LEFT: i64 = 20;
 
 enum Sort {
     /// A box of a class, half its width, and whether it is framed.
@@ -55,24 +56,29 @@ impl Legend<'_> {
 
     /// The legend below a height, in rows of a width, and where it ends.
     pub fn text(&self, top: i64, width: i64) -> (String, i64) {
-        let sizes = self.picture.sizes;
-        let row = 2 * self.half_height() + sizes.text;
-        let mut text = String::from("<g class=\"legend\">\n");
-        let (mut x, mut y) = (20, top + row * 3 / 4);
+        let note = self.picture.sizes.note;
+        let (samples, y) = self.rows(top, width);
+        let line = |(note, y): (&String, i64)| format!("<text class=\"note\" x=\"{LEFT}\" y=\"{y}\">{note}</text>\n");
+        let below = (y + self.half_height() + 2 * note..).step_by(note as usize * 3 / 2);
+        let notes: String = self.notes.iter().zip(below).map(line).collect();
+        let height = self.half_height() + 2 * note + note * 3 / 2 * self.notes.len() as i64;
+        (format!("<g class=\"legend\">\n{samples}{notes}</g>\n"), y + height)
+    }
+
+    /// The samples from left to right, and the height of the last row.
+    fn rows(&self, top: i64, width: i64) -> (String, i64) {
+        let row = 2 * self.half_height() + self.picture.sizes.text;
+        let mut text = String::new();
+        let (mut x, mut y) = (LEFT, top + row * 3 / 4);
         for sample in &self.samples {
-            let takes = 2 * HALF + BEHIND + width_of(&sample.meaning, sizes.text);
-            if x > 20 && x + takes > width - 16 {
-                (x, y) = (20, y + row);
+            let takes = 2 * HALF + BEHIND + width_of(&sample.meaning, self.picture.sizes.text);
+            if x > LEFT && x + takes > width - LEFT {
+                (x, y) = (LEFT, y + row);
             }
             text += &self.sample(sample, (x + HALF, y));
             x += takes + BETWEEN;
         }
-        y += self.half_height() + sizes.note / 2;
-        for note in &self.notes {
-            y += sizes.note * 3 / 2;
-            let _ = writeln!(text, "<text class=\"note\" x=\"20\" y=\"{y}\">{note}</text>");
-        }
-        (text + "</g>\n", y + sizes.note)
+        (text, y)
     }
 
     /// Half the height of a sample's box.
@@ -111,10 +117,10 @@ fn boxes(layout: &Layout, picture: &Picture) -> Vec<Sample> {
     ] {
         samples.extend(has(kind).then(|| sample(class, HALF, false, &meaning)));
     }
-    if let Some((mark, others)) = &picture.pairs {
-        samples.push(sample("made", HALF, true, &format!("mark {mark}")));
-        let apart = sample("made apart", HALF, false, &format!("concurrent with {mark}"));
-        samples.extend((!others.is_empty()).then_some(apart));
+    if let Some(apart) = &picture.apart {
+        samples.push(sample("made", HALF, true, &format!("mark {}", apart.name)));
+        let hatched = sample("made apart", HALF, false, &format!("concurrent with {}", apart.name));
+        samples.extend(apart.has_pairs().then_some(hatched));
     }
     if picture.why.as_ref().is_some_and(Why::has_chain) {
         samples.push(sample("made chain", HALF, false, "in the chain"));
@@ -127,8 +133,8 @@ fn boxes(layout: &Layout, picture: &Picture) -> Vec<Sample> {
 
 /// The sorts of lines in the picture.
 fn line_samples(lines: &[Drawn], picture: &Picture) -> Vec<Sample> {
-    let joins =
-        picture.pairs.as_ref().map_or(String::new(), |(mark, _)| format!("joins {mark} and one concurrent with it"));
+    let joins = |apart: &Apart| format!("joins {} and one concurrent with it", apart.name);
+    let joins = picture.apart.as_ref().map_or(String::new(), joins);
     let sorts = [
         ("entry", "from an entry of a stamp to its mark".to_string()),
         ("entry link", "the same, in the chain".to_string()),

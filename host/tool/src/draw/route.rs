@@ -54,6 +54,9 @@ impl Vertical {
 /// The lines that end at an edge of a box, by box and whether it is the right edge.
 type Edges = BTreeMap<(usize, bool), Vec<usize>>;
 
+/// Something with a number, from where to where it goes.
+type Span = (usize, (i64, i64));
+
 /// The plan of a picture while it is measured.
 pub struct Plan<'a> {
     pub places: &'a [Place],
@@ -120,43 +123,56 @@ impl Plan<'_> {
         heights
     }
 
-    /// The channel and the lane of each line that passes columns: beside the line of the box at which it ends.
-    fn lanes(&self) -> Vec<Option<(usize, usize)>> {
-        let mut channels: BTreeMap<usize, Vec<(usize, (i64, i64))>> = BTreeMap::new();
+    /// The channel of each line that passes columns, beside the desk's line at which it ends, with the gutters between which
+    /// it runs there.
+    fn channels(&self) -> BTreeMap<usize, Vec<Span>> {
+        let mut channels: BTreeMap<usize, Vec<Span>> = BTreeMap::new();
         for (i, join) in self.joins.iter().enumerate() {
             let (leaves, arrives) = self.gutters_of(join);
             let (from, to) = (self.places[join.from].line, self.places[join.to].line);
             if leaves != arrives {
-                let span = (leaves.min(arrives) as i64, leaves.max(arrives) as i64);
-                channels.entry(if from > to { to + 1 } else { to }).or_default().push((i, span));
+                let span = (i, (leaves.min(arrives) as i64, leaves.max(arrives) as i64));
+                channels.entry(if from > to { to + 1 } else { to }).or_default().push(span);
             }
         }
+        channels
+    }
+
+    /// The channel of each such line, and its lane there.
+    fn lanes(&self) -> Vec<Option<(usize, usize)>> {
         let mut lanes = vec![None; self.joins.len()];
-        for (channel, spans) in channels {
-            let found = apart(&spans, 0);
-            found.into_iter().for_each(|(join, lane)| lanes[join] = Some((channel, lane)));
+        for (channel, spans) in self.channels() {
+            apart(&spans, 0).into_iter().for_each(|(join, lane)| lanes[join] = Some((channel, lane)));
         }
         lanes
     }
 
-    /// The heights of the desks' lines and of the lanes, and where the last line ends.
-    fn rows(&self, heights: &[i64], lanes: &[Option<(usize, usize)>]) -> (Vec<i64>, Vec<Option<i64>>, i64) {
-        let mut above = vec![self.sizes.first.1; self.lines];
-        let mut below = above.clone();
+    /// What the boxes of each desk's line take above it and below.
+    fn extents(&self, heights: &[i64]) -> Vec<(i64, i64)> {
+        let least = self.sizes.first.1;
+        let mut extents = vec![(least, least); self.lines];
         for (place, height) in self.places.iter().zip(heights) {
-            above[place.line] = above[place.line].max(height + place.frame);
-            below[place.line] = below[place.line].max(height + place.frame + place.note.1);
+            let (above, below) = &mut extents[place.line];
+            *above = (height + place.frame).max(*above);
+            *below = (height + place.frame + place.note.1).max(*below);
         }
-        let mut tops = vec![self.top];
-        let mut lines = Vec::new();
-        for line in 0..=self.lines {
-            let used = lanes.iter().flatten().filter(|lane| lane.0 == line).map(|lane| lane.1 + 1).max().unwrap_or(0);
-            let middle = tops[line] + self.sizes.clear + self.sizes.track * used as i64 + above.get(line).unwrap_or(&0);
+        extents
+    }
+
+    /// The heights of the desks' lines and of the lanes, and where the last channel ends.
+    fn rows(&self, heights: &[i64], lanes: &[Option<(usize, usize)>]) -> (Vec<i64>, Vec<Option<i64>>, i64) {
+        let (track, clear) = (self.sizes.track, self.sizes.clear);
+        let mut used = vec![0; self.lines + 1];
+        lanes.iter().flatten().for_each(|&(channel, lane)| used[channel] = used[channel].max(lane as i64 + 1));
+        let (mut tops, mut lines, mut bottom) = (Vec::new(), Vec::new(), self.top);
+        for (channel, (above, below)) in self.extents(heights).into_iter().chain([(0, 0)]).enumerate() {
+            tops.push(bottom);
+            let middle = bottom + clear + track * used[channel] + above;
             lines.push(middle);
-            tops.push(middle + below.get(line).unwrap_or(&0) + self.sizes.clear);
+            bottom = middle + below + clear;
         }
-        let bottom = lines.pop().unwrap_or(self.top);
-        let lane = |(channel, lane): (usize, usize)| tops[channel] + self.sizes.track * lane as i64;
+        lines.truncate(self.lines);
+        let lane = |(channel, lane): (usize, usize)| tops[channel] + track * lane as i64;
         (lines, lanes.iter().map(|found| found.map(lane)).collect(), bottom)
     }
 
@@ -193,7 +209,7 @@ impl Plan<'_> {
         let mut tracks = vec![0; verticals.len()];
         for gutter in 0..=self.columns {
             let within: Vec<usize> = (0..verticals.len()).filter(|&i| verticals[i].gutter == gutter).collect();
-            let spans: Vec<(usize, (i64, i64))> = within.iter().map(|&i| (i, verticals[i].span())).collect();
+            let spans: Vec<Span> = within.iter().map(|&i| (i, verticals[i].span())).collect();
             apart(&spans, self.sizes.track).into_iter().for_each(|(i, track)| tracks[i] = track);
             untangle(verticals, &within, &mut tracks);
         }
@@ -228,8 +244,8 @@ impl Plan<'_> {
 }
 
 /// Gives each span the lowest track in which it meets no other: more than `gap` lies between two of one track.
-fn apart(spans: &[(usize, (i64, i64))], gap: i64) -> Vec<(usize, usize)> {
-    let mut order: Vec<&(usize, (i64, i64))> = spans.iter().collect();
+fn apart(spans: &[Span], gap: i64) -> Vec<(usize, usize)> {
+    let mut order: Vec<&Span> = spans.iter().collect();
     order.sort_by_key(|(i, span)| (*span, *i));
     let mut ends: Vec<i64> = Vec::new();
     let mut found = Vec::new();

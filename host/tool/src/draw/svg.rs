@@ -1,8 +1,5 @@
 //! The picture's SVG text. It needs no colour: fill, hatching and broken lines tell the boxes apart.
-use std::collections::BTreeSet;
-
-use kaungimewe::MarkId;
-
+use super::apart::Apart;
 use super::arrows::{drawn_line, lines};
 use super::boxes::{desk_line, desk_names, mark_box, place};
 use super::layout::{Layout, Shown};
@@ -13,8 +10,7 @@ use super::why::Why;
 
 /// What is drawn besides the boxes and arrows, and in which measures.
 pub struct Picture {
-    /// A mark and those concurrent with it.
-    pub pairs: Option<(MarkId, BTreeSet<MarkId>)>,
+    pub apart: Option<Apart>,
     pub why: Option<Why>,
     /// Is each mark shown once?
     pub once: bool,
@@ -23,11 +19,15 @@ pub struct Picture {
 
 impl Picture {
     pub fn is_chosen(&self, shown: &Shown) -> bool {
-        self.pairs.as_ref().is_some_and(|(mark, _)| *mark == shown.mark.id)
+        self.apart.as_ref().is_some_and(|apart| apart.is_chosen(&shown.mark))
     }
 
     pub fn is_apart(&self, shown: &Shown) -> bool {
-        self.pairs.as_ref().is_some_and(|(_, others)| others.contains(&shown.mark.id))
+        self.apart.as_ref().is_some_and(|apart| apart.is_concurrent(&shown.mark))
+    }
+
+    pub fn is_pair(&self, one: &Shown, other: &Shown) -> bool {
+        self.apart.as_ref().is_some_and(|apart| apart.joins(&one.mark, &other.mark))
     }
 
     pub fn is_in_chain(&self, shown: &Shown) -> bool {
@@ -48,13 +48,11 @@ impl Picture {
         let width = (grid.right + margin).max(legend.least_width());
         let (below, height) = legend.text(grid.bottom, width);
         let mut svg = self.opening(layout, width, height);
-        for (named, &y) in layout.desks.iter().zip(&grid.lines) {
-            svg += &desk_line(named, y, (margin, width - margin), sizes);
-        }
+        let desks = layout.desks.iter().zip(&grid.lines);
+        svg.extend(desks.map(|(named, &y)| desk_line(named, y, (margin, width - margin), sizes)));
         svg.extend(drawn.iter().zip(&grid.paths).map(|(line, corners)| drawn_line(line, corners, sizes)));
-        for (at, (shown, place)) in layout.shown.iter().zip(&places).enumerate() {
-            svg += &mark_box(at, shown, place, &grid, self);
-        }
+        let boxes = layout.shown.iter().zip(&places).enumerate();
+        svg.extend(boxes.map(|(at, (shown, place))| mark_box(at, shown, place, &grid, self)));
         svg + &below + "</svg>\n"
     }
 

@@ -145,3 +145,30 @@ fn an_arrow_comes_from_the_mark_that_was_executed() {
     let first = made.iter().min_by_key(|b| b.rect.1).expect("a box");
     assert!(at_edge(arrows[0].start(), "1.1", true, std::slice::from_ref(first)));
 }
+
+/// Waiting marks stand behind those that they name, whichever came first, unless they name each other.
+#[test]
+fn arrows_run_to_the_right() {
+    let named = "new 3\nreceive 3 0018010900030000000000000001000000020000000301090002\n\
+                 receive 3 0018010900020000000000000001000000020000000301090001\n";
+    let pictures = [printed(&["draw"], named), printed(&["draw", "--made"], &history(16, 120))];
+    for line in pictures.iter().flat_map(|picture| lines(picture)) {
+        assert!(line.start().0 < line.end().0, "{}", line.title);
+    }
+}
+
+/// A mark of the chosen one's name, or of the name of one concurrent with it, is another where a desk was made anew.
+#[test]
+fn pairs_are_of_marks_and_not_of_names() {
+    let made = "new 1\nmark 1 0 1 0 1\nnew 2\nmark 2 0 1 0 1\nnew 1\nmark 1 5 9 0 1\nhand 1 2.1\n";
+    for apart in ["1.1", "2.1"] {
+        let picture = printed(&["draw", "--apart", apart], made);
+        let pairs: Vec<Line> = lines(&picture).into_iter().filter(|line| !line.is_arrow).collect();
+        assert_eq!(pairs.len(), 1, "{apart}");
+        let title = if apart == "1.1" { "1.1 and 2.1 are concurrent" } else { "2.1 and 1.1 are concurrent" };
+        assert_eq!(pairs[0].title, title);
+        assert_eq!(picture.matches("<g class=\"made\"><title>1.1: 0 to 1 ms").count(), 1, "it is neither");
+        let hatched = if apart == "1.1" { "2.1: 0 to 1 ms" } else { "1.1: 5 to 9 ms" };
+        assert_eq!(picture.matches(&format!("<g class=\"made apart\"><title>{hatched}")).count(), 1);
+    }
+}
