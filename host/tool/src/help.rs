@@ -110,9 +110,9 @@ two rows and the boxes closer together; a mark that no desk of the script made s
 where it waits. Such a picture is at most as large as a page of landscape A4: a larger one is scaled down to that. 16 desks
 and 120 marks can be read when printed. It goes with --apart and --why.
 
-A click, which has no width, has a narrow box, as wide as its name. Point at a box for its times, or a click's instant, its
-frequencies, its stamp and its past count, which is not said of a waiting mark that came in edition 1; point at a line for
-the two marks that it joins. The legend has a sample of each sort of box and line that occurs.
+A click, which has no width, has a narrow box with round corners, as wide as its name. Point at a box for its times, or a
+click's instant, its frequencies, its stamp and its past count, which is not said of a waiting mark that came in edition 1;
+point at a line for the two marks that it joins. The legend has a sample of each sort of box and line that occurs.
 ";
 
 pub const PAIRS: &str = "\

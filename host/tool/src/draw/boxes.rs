@@ -3,7 +3,7 @@ use kaungimewe::PastCount;
 
 use super::layout::{Kind, Named, Shown};
 use super::route::{Grid, Place};
-use super::sizes::{name_rows, width_of, Sizes};
+use super::sizes::{half_of, name_rows, width_of, Sizes};
 use super::svg::Picture;
 
 /// What a frame adds to a box on each side.
@@ -17,16 +17,17 @@ pub fn is_click(shown: &Shown) -> bool {
     shown.mark.extent.start == shown.mark.extent.end
 }
 
-/// Half the width of a click's box: as its name needs, and less than that of every other box.
+/// Half the width of a click's box: as its name needs.
 pub fn least_width(name: &str, sizes: &Sizes) -> i64 {
-    sizes.letter * name_rows(name, sizes).iter().map(|row| row.len() as i64).max().unwrap_or(0)
+    let rows = name_rows(name, sizes);
+    rows.iter().map(|row| half_of(row, sizes.text)).max().unwrap_or(0) + sizes.beside
 }
 
 /// Half the width and half the height of a box at least: a mark's first one is larger, a click's is narrow.
 fn half(shown: &Shown, sizes: &Sizes) -> (i64, i64) {
     let (width, height) = if shown.first { sizes.first } else { sizes.again };
     let least = least_width(&shown.mark.id.to_string(), sizes);
-    (if is_click(shown) { least } else { width.max(least + 2) }, height)
+    (if is_click(shown) { least } else { width.max(least) }, height)
 }
 
 /// What a box takes in the picture.
@@ -56,7 +57,8 @@ fn note_rows(shown: &Shown) -> Vec<String> {
 pub fn mark_box(at: usize, shown: &Shown, place: &Place, grid: &Grid, picture: &Picture) -> String {
     let (x, y) = (grid.middles[at], grid.lines[shown.line]);
     let half = (place.half.0, grid.heights[at]);
-    let label = Label { name: &shown.mark.id.to_string(), title: &title(shown), class: &class_of(shown, picture) };
+    let (name, title, class) = (shown.mark.id.to_string(), title(shown), class_of(shown, picture));
+    let label = Label { name: &name, title: &title, class: &class, click: is_click(shown) };
     let sizes = picture.sizes;
     let note = note(x, y + half.1 + place.frame + ABOVE_NOTE, place.note, &note_rows(shown), shown, sizes);
     labelled_box((x, y), half, label, picture.is_chosen(shown), sizes) + &note
@@ -86,27 +88,31 @@ fn class_of(shown: &Shown, picture: &Picture) -> String {
     format!("{kind}{}{chain}", if picture.is_apart(shown) { " apart" } else { "" })
 }
 
-/// What is written in a box and told of it, and its sort.
+/// What is written in a box and told of it, its sort, and whether it is a click's, with round corners.
 pub struct Label<'a> {
     pub name: &'a str,
     pub title: &'a str,
     pub class: &'a str,
+    pub click: bool,
 }
 
-fn rect(class: &str, (x, y): (i64, i64), (w, h): (i64, i64)) -> String {
-    format!("<rect class=\"{class}\" x=\"{}\" y=\"{}\" width=\"{}\" height=\"{}\"/>", x - w, y - h, 2 * w, 2 * h)
+fn rect(class: &str, (x, y): (i64, i64), (w, h): (i64, i64), round: bool) -> String {
+    let round = if round { " rx=\"6\"" } else { "" };
+    let (left, top, width, height) = (x - w, y - h, 2 * w, 2 * h);
+    format!("<rect class=\"{class}\" x=\"{left}\" y=\"{top}\" width=\"{width}\" height=\"{height}\"{round}/>")
 }
 
 /// A box around a middle, in a frame where it is the chosen mark's.
 pub fn labelled_box(middle: (i64, i64), (w, h): (i64, i64), label: Label, chosen: bool, sizes: &Sizes) -> String {
-    let Label { name, title, class } = label;
-    let frame = if chosen { rect("frame", middle, (w + FRAME, h + FRAME)) } else { String::new() };
+    let Label { name, title, class, click } = label;
+    let frame = if chosen { rect("frame", middle, (w + FRAME, h + FRAME), false) } else { String::new() };
     let rows = name_rows(name, sizes);
     let high = rows.len() as i64 * sizes.text;
-    let plate = rect("plate", middle, (least_width(name, sizes).min(w - 2), (high / 2 + 2).min(h - 3)));
-    let text: String =
-        rows.iter().zip(0..).map(|(row, at)| name_row(row, middle, at * sizes.text - high / 2, sizes)).collect();
-    format!("<g class=\"{class}\"><title>{title}</title>{}{plate}{frame}{text}</g>\n", rect("box", middle, (w, h)))
+    let plate = rect("plate", middle, (least_width(name, sizes).min(w - 2), (high / 2 + 2).min(h - 3)), false);
+    let row = |(row, at): (&&str, i64)| name_row(row, middle, at * sizes.text - high / 2, sizes);
+    let text: String = rows.iter().zip(0..).map(row).collect();
+    let outer = rect("box", middle, (w, h), click);
+    format!("<g class=\"{class}\"><title>{title}</title>{outer}{plate}{frame}{text}</g>\n")
 }
 
 /// A row of a name, so far below the middle of its box.

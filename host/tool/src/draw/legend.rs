@@ -90,7 +90,7 @@ impl Legend<'_> {
         let (sizes, meaning) = (self.picture.sizes, &sample.meaning);
         let drawn = match sample.sort {
             Sort::Box(class, half, chosen) => {
-                let label = Label { name: "a.n", title: meaning, class };
+                let label = Label { name: "a.n", title: meaning, class, click: half < HALF };
                 labelled_box((x, y), (half, self.half_height()), label, chosen, sizes)
             }
             Sort::Line(class) => drawn_path(class, &[(x - HALF, y), (x + HALF, y)], meaning, sizes),

@@ -5,8 +5,8 @@ pub struct Sizes {
     /// Text, and that of notes.
     pub text: i64,
     pub note: i64,
-    /// What half of a name's character takes, and whether a name stands in two rows, the desk above the number.
-    pub letter: i64,
+    /// What is free beside a name in the narrowest box, and whether names stand in two rows, the desk above the number.
+    pub beside: i64,
     pub stacked: bool,
     /// Half the width and half the height of a mark's first box, and of its other ones, at least.
     pub first: (i64, i64),
@@ -30,7 +30,7 @@ pub struct Sizes {
 pub const FULL: Sizes = Sizes {
     text: 13,
     note: 11,
-    letter: 4,
+    beside: 2,
     stacked: false,
     first: (25, 15),
     again: (22, 11),
@@ -47,9 +47,9 @@ pub const FULL: Sizes = Sizes {
 
 /// The marks where they were made, on a page: landscape A4 within margins of 8 mm.
 pub const MADE: Sizes = Sizes {
-    text: 17,
+    text: 18,
     note: 14,
-    letter: 4,
+    beside: 1,
     stacked: true,
     first: (13, 18),
     again: (13, 18),
@@ -67,6 +67,12 @@ pub const MADE: Sizes = Sizes {
 /// What so many characters of this size take, with some room.
 pub fn width_of(text: &str, size: i64) -> i64 {
     (text.chars().count() as i64 * size * 58 + 99) / 100
+}
+
+/// Half of what a row of a name takes: digits, and the dot, which is half as wide.
+pub fn half_of(row: &str, size: i64) -> i64 {
+    let halves: i64 = row.chars().map(|c| if c == '.' { 1 } else { 2 }).sum();
+    (halves * size * 278 + 1999) / 2000
 }
 
 /// The rows in which a mark's name stands in its box.
