@@ -43,7 +43,7 @@ fn row_height(sizes: &Sizes) -> i64 {
     sizes.note + 2
 }
 
-/// The note of the entries that are shown nowhere: a word, and their names, in rows about as many as in each.
+/// The rows of the note of entries that are shown nowhere: a word, and their names, at most four in a row.
 fn note_rows(shown: &Shown) -> Vec<String> {
     if shown.unseen.is_empty() {
         return Vec::new();
