@@ -4,9 +4,9 @@ use std::collections::BTreeMap;
 
 use kaungimewe::{Evidence, Mark, MarkId, Refusal, LARGEST_FRAME, PAIR_COUNTS, PLACES};
 use peers::draws::Draws;
-use peers::{Engine, Stamped};
+use peers::Stamped;
 
-use crate::pair::{both, edition1, Pair};
+use crate::pair::{edition1, Pair};
 use crate::tables::check_laws;
 
 /// Up to so many names are asked of; of more, so many drawn ones.
@@ -25,12 +25,11 @@ impl<E: Stamped> Pair<E> {
         let names = self.names();
         for a in chosen(&names, ASKED, draws) {
             for b in chosen(&names, ASKED, draws) {
-                assert_eq!(self.engine.relate(a, b), self.model.relate(a, b), "relate {a} {b}");
+                let _ = self.relate(a, b);
             }
             self.compare_apart(a);
             for desk in 0..=17 {
-                let expected = self.model.first_apart(a, desk);
-                assert_eq!(self.engine.first_apart(a, desk), expected, "first apart {a} {desk}");
+                let _ = self.first_apart(a, desk);
             }
             self.compare_frame(a);
         }
@@ -54,16 +53,10 @@ impl<E: Stamped> Pair<E> {
 
     /// With room to spare, just enough, and one too little.
     pub fn compare_apart(&self, a: MarkId) {
-        let (mut expected, mut found) = ([MarkId::new(99, 9); PLACES], [MarkId::new(99, 9); PLACES]);
-        let count = self.model.apart(a, &mut expected);
-        assert_eq!(self.engine.apart(a, &mut found), count, "apart {a}");
-        assert_eq!(found, expected, "apart {a}");
-        let Ok(count) = count else { return };
-        assert_eq!(self.engine.apart(a, &mut found[..count]), Ok(count), "apart {a} with just enough room");
-        if count > 0 {
-            let refusal = self.model.apart(a, &mut expected[..count - 1]);
-            assert_eq!(self.engine.apart(a, &mut found[..count - 1]), refusal, "apart {a} with too little room");
-            assert_eq!(found, expected);
+        let Ok(apart) = self.apart(a, PLACES) else { return };
+        assert_eq!(self.apart(a, apart.len()).as_ref(), Ok(&apart), "apart {a} with just enough room");
+        if let Some(short) = apart.len().checked_sub(1) {
+            assert_eq!(self.apart(a, short), Err(Refusal::OutputShort), "apart {a} with too little room");
         }
     }
 
@@ -101,9 +94,7 @@ impl<E: Stamped> Pair<E> {
 
     /// Frame again writes edition 2; to edition 1, and at this desk back to 2, it is the same frame.
     fn compare_frame(&self, a: MarkId) {
-        let (model, engine) = (&self.model, &self.engine);
-        let frame = both(LARGEST_FRAME, |out| model.frame_again(a, out), |out| engine.frame_again(a, out));
-        let Ok(frame) = frame else { return };
+        let Ok(frame) = self.frame_again(a, LARGEST_FRAME) else { return };
         assert_eq!(self.to2(&edition1(&frame), LARGEST_FRAME), Ok(frame), "{a} to edition 1 and back");
     }
 }

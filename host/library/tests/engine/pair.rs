@@ -1,5 +1,9 @@
 //! An engine and the model, driven together: each answer is compared as it comes.
-use kaungimewe::{reader, Evidence, MarkBox, MarkId, Marked, Reception, Refusal, LARGEST_FRAME};
+use std::fmt::Debug;
+
+use kaungimewe::{
+    reader, writer, Evidence, Fields, MarkBox, MarkId, Marked, Reception, Refusal, Relation, LARGEST_FRAME,
+};
 use peers::model::{codec, Model};
 use peers::{Engine, Stamped};
 
@@ -11,6 +15,9 @@ pub const FILL: u8 = 0x77;
 
 /// Bytes that are lent of: more than any call writes.
 const LENT: usize = 96;
+
+/// How much stands behind what is lent, and must keep its value.
+const BEHIND: usize = 4;
 
 /// What lent names hold before a call.
 const NAME: MarkId = MarkId { desk: 99, number: 9 };
@@ -37,7 +44,7 @@ impl<E: Stamped> Pair<E> {
     }
 
     /// Calls the engine where the model has answered; after a refusal the desk must be as it was.
-    fn same<A: PartialEq + std::fmt::Debug>(
+    fn same<A: PartialEq + Debug>(
         &mut self,
         expected: Result<A, Refusal>,
         call: impl FnOnce(&mut E) -> Result<A, Refusal>,
@@ -89,34 +96,61 @@ impl<E: Stamped> Pair<E> {
         answer.map(|evidence| (evidence, found))
     }
 
-    /// Pair tables into so many lent counts: both tables. Counts beyond them keep their values, one behind the lent ones
-    /// too, and the desk is as it was.
-    pub fn pair_tables(&self, lent: usize) -> Result<Vec<u32>, Refusal> {
+    /// Asks something of a desk, which must be as it was.
+    pub fn ask<A>(&self, question: impl FnOnce(&Pair<E>) -> A) -> A {
         let before = self.engine.snapshot();
-        let (mut expected, mut found) = (vec![COUNT; lent + 1], vec![COUNT; lent + 1]);
-        let answer = self.model.pair_tables(&mut expected[..lent]);
-        assert_eq!(self.engine.pair_tables(&mut found[..lent]), answer, "pair tables into {lent}");
-        assert_eq!(found, expected, "pair tables into {lent}");
-        assert!(before == self.engine.snapshot(), "pair tables have changed the desk");
-        let written = answer.unwrap_or(0);
-        assert!(found[written..].iter().all(|count| *count == COUNT), "pair tables into {lent} write too much");
-        found.truncate(written);
-        answer.map(|_| found)
+        let answer = question(self);
+        assert!(before == self.engine.snapshot(), "a question has changed the desk");
+        answer
+    }
+
+    pub fn relate(&self, a: MarkId, b: MarkId) -> Result<Relation, Refusal> {
+        let answer = self.model.relate(a, b);
+        assert_eq!(self.engine.relate(a, b), answer, "relate {a} {b}");
+        answer
+    }
+
+    pub fn first_apart(&self, a: MarkId, desk: u8) -> Result<u16, Refusal> {
+        let answer = self.model.first_apart(a, desk);
+        assert_eq!(self.engine.first_apart(a, desk), answer, "first apart {a} {desk}");
+        answer
+    }
+
+    /// Apart into so many lent names: the marks.
+    pub fn apart(&self, a: MarkId, room: usize) -> Result<Vec<MarkId>, Refusal> {
+        run(NAME, room, |out| self.model.apart(a, out), |out| self.engine.apart(a, out))
+    }
+
+    /// Pair tables into so many lent counts: both tables.
+    pub fn pair_tables(&self, lent: usize) -> Result<Vec<u32>, Refusal> {
+        self.ask(|desk| run(COUNT, lent, |out| desk.model.pair_tables(out), |out| desk.engine.pair_tables(out)))
+    }
+
+    /// Frame again into so many lent bytes: the frame.
+    pub fn frame_again(&self, a: MarkId, lent: usize) -> Result<Vec<u8>, Refusal> {
+        run(FILL, lent, |out| self.model.frame_again(a, out), |out| self.engine.frame_again(a, out))
     }
 
     /// From edition 1 to 2 into so many lent bytes: the frame.
     pub fn to2(&self, frame: &[u8], lent: usize) -> Result<Vec<u8>, Refusal> {
-        let before = self.engine.snapshot();
-        let (model, engine) = (&self.model, &self.engine);
-        let made = both(lent, |out| model.to2(frame, out), |out| engine.to2(frame, out));
-        assert!(before == self.engine.snapshot(), "a conversion has changed the desk");
-        made
+        self.ask(|desk| run(FILL, lent, |out| desk.model.to2(frame, out), |out| desk.engine.to2(frame, out)))
     }
 }
 
 /// From edition 2 to 1 into so many lent bytes: the frame.
 pub fn to1(frame: &[u8], lent: usize) -> Result<Vec<u8>, Refusal> {
-    both(lent, |out| codec::to1(frame, out), |out| kaungimewe::to1(frame, out))
+    run(FILL, lent, |out| codec::to1(frame, out), |out| kaungimewe::to1(frame, out))
+}
+
+/// The writer into so many lent bytes: the frame.
+pub fn write(fields: Fields<'_>, lent: usize) -> Result<Vec<u8>, Refusal> {
+    let Fields { id, extent, past, entries } = fields;
+    let lay = |out: &mut [u8]| {
+        let frame = codec::write(id, extent, past, entries, out.len())?;
+        out[..frame.len()].copy_from_slice(&frame);
+        Ok(frame.len())
+    };
+    run(FILL, lent, lay, |out| writer(fields, out))
 }
 
 /// The edition 1 of a frame that is of edition 2.
@@ -124,17 +158,20 @@ pub fn edition1(frame: &[u8]) -> Vec<u8> {
     to1(frame, LARGEST_FRAME).expect("a frame of edition 2")
 }
 
-/// What the model and the engine write to so many lent bytes, which must be the same: the answer and every byte.
-pub fn both(
+/// What the model and the engine write to so many lent bytes, names or counts, which must be the same: the answer, all that
+/// is lent and what stands behind it.
+fn run<T: Copy + PartialEq + Debug>(
+    fill: T,
     lent: usize,
-    model: impl FnOnce(&mut [u8]) -> Result<usize, Refusal>,
-    engine: impl FnOnce(&mut [u8]) -> Result<usize, Refusal>,
-) -> Result<Vec<u8>, Refusal> {
-    let (mut expected, mut found) = ([FILL; LENT], [FILL; LENT]);
+    model: impl FnOnce(&mut [T]) -> Result<usize, Refusal>,
+    engine: impl FnOnce(&mut [T]) -> Result<usize, Refusal>,
+) -> Result<Vec<T>, Refusal> {
+    let (mut expected, mut found) = (vec![fill; lent + BEHIND], vec![fill; lent + BEHIND]);
     let answer = model(&mut expected[..lent]);
-    assert_eq!(engine(&mut found[..lent]), answer);
-    assert_eq!(found, expected);
-    answer.map(|size| found[..size].to_vec())
+    assert_eq!(engine(&mut found[..lent]), answer, "into {lent}");
+    assert_eq!(found, expected, "into {lent}");
+    found.truncate(answer.unwrap_or(0));
+    answer.map(|_| found)
 }
 
 /// What Receive answers of a mark that waits, short of so many.
