@@ -1,0 +1,23 @@
+/* The header of the engine for the faults: every call here is the true one, whose export has been given a name of its own.
+ * host/test reads the names from this file. */
+#ifndef FAULTS_TRUE_H
+#define FAULTS_TRUE_H
+
+#define kaungimewe_new true_kaungimewe_new
+#define kaungimewe_mark_lent true_kaungimewe_mark_lent
+#define kaungimewe_receive_lent true_kaungimewe_receive_lent
+#define kaungimewe_relate_lent true_kaungimewe_relate_lent
+#define kaungimewe_evidence_lent true_kaungimewe_evidence_lent
+#define kaungimewe_apart_lent true_kaungimewe_apart_lent
+#define kaungimewe_pair_tables_lent true_kaungimewe_pair_tables_lent
+#define kaungimewe_first_apart_lent true_kaungimewe_first_apart_lent
+#define kaungimewe_frame_again_lent true_kaungimewe_frame_again_lent
+#define kaungimewe_to2_lent true_kaungimewe_to2_lent
+#define kaungimewe_to1 true_kaungimewe_to1
+#define kaungimewe_write true_kaungimewe_write
+#define kaungimewe_write2 true_kaungimewe_write2
+#define kaungimewe_read true_kaungimewe_read
+
+#include "faulty.h"
+
+#endif
