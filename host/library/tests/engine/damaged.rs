@@ -5,7 +5,7 @@ use peers::model::codec;
 use peers::Stamped;
 
 use crate::answers::Answers;
-use crate::pair::{edition1, to1, Pair};
+use crate::pair::{edition1, Pair};
 
 /// A random sequence: what Receive answered.
 pub fn sequence<E: Stamped>(draws: &mut Draws) -> Answers {
@@ -14,13 +14,11 @@ pub fn sequence<E: Stamped>(draws: &mut Draws) -> Answers {
     for damaged in damages(&frame, draws) {
         compare_readers(&damaged);
         let _ = desk.receive(&damaged);
-        for converted in [desk.to2(&damaged, LARGEST_FRAME), to1(&damaged, LARGEST_FRAME)] {
-            desk.answers.count_conversion(&converted);
-        }
+        let _ = (desk.to2(&damaged, LARGEST_FRAME), desk.to1(&damaged, LARGEST_FRAME));
     }
     let _ = desk.receive(&frame);
     desk.compare(draws);
-    desk.answers
+    desk.answers()
 }
 
 /// A desk with marks of some others, and the next frame of one of them.

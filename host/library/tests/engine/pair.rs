@@ -1,4 +1,5 @@
 //! An engine and the model, driven together: each answer is compared as it comes.
+use std::cell::RefCell;
 use std::fmt::Debug;
 
 use kaungimewe::{
@@ -7,7 +8,7 @@ use kaungimewe::{
 use peers::model::{codec, Model};
 use peers::{Engine, Stamped};
 
-use crate::answers::Answers;
+use crate::answers::{Answers, Call};
 use crate::silent::Silence;
 
 /// What lent bytes hold before a call.
@@ -30,8 +31,8 @@ pub struct Pair<E> {
     pub own: u8,
     pub engine: E,
     pub model: Model,
-    /// What Receive and the converter have answered.
-    pub answers: Answers,
+    /// What the calls have answered.
+    answers: RefCell<Answers>,
     /// Which desks are silent here.
     silence: Silence,
 }
@@ -40,7 +41,7 @@ impl<E: Stamped> Pair<E> {
     pub fn new(own: u8) -> Pair<E> {
         let (engine, model) = (E::new(own), Model::new(own));
         let (engine, model) = (engine.expect("a desk"), model.expect("a desk"));
-        Pair { own, engine, model, answers: Answers::default(), silence: Silence::default() }
+        Pair { own, engine, model, answers: RefCell::default(), silence: Silence::default() }
     }
 
     /// Calls the engine where the model has answered; after a refusal the desk must be as it was.
@@ -61,11 +62,12 @@ impl<E: Stamped> Pair<E> {
         self.silence.see(&self.model);
         let (mut expected, mut found) = ([FILL; LENT], [FILL; LENT]);
         let answer = self.model.mark(extent, &mut expected[..lent]);
+        self.count(Call::Mark, &answer);
         let made = self.same(answer, |engine| engine.mark(extent, &mut found[..lent]));
         assert_eq!(found, expected);
         let made = made?;
         let frame = found[..made.size].to_vec();
-        self.answers.count_stamp(self.silence.judge(&reader(&frame).expect("a frame").stamp()));
+        self.answers.get_mut().count_stamp(self.silence.judge(&reader(&frame).expect("a frame").stamp()));
         Ok((made, frame))
     }
 
@@ -76,7 +78,7 @@ impl<E: Stamped> Pair<E> {
 
     pub fn receive(&mut self, frame: &[u8]) -> Result<Reception, Refusal> {
         let answer = self.model.receive(frame);
-        self.answers.count(answer);
+        self.answers.get_mut().count_reception(answer);
         let known = (answer == Ok(Reception::Known)).then(|| self.engine.snapshot());
         let found = self.same(answer, |engine| engine.receive(frame));
         assert!(known.is_none_or(|k| k == self.engine.snapshot()), "a known mark has changed the desk");
@@ -88,6 +90,7 @@ impl<E: Stamped> Pair<E> {
     pub fn evidence(&self, a: MarkId, b: MarkId, room: usize) -> Result<(Evidence, Vec<MarkId>), Refusal> {
         let (mut expected, mut found) = (vec![NAME; room + 1], vec![NAME; room + 1]);
         let answer = self.model.evidence(a, b, &mut expected[..room]);
+        self.count(Call::Evidence, &answer);
         assert_eq!(self.engine.evidence(a, b, &mut found[..room]), answer, "evidence {a} {b} {room}");
         assert_eq!(found, expected, "evidence {a} {b} {room}");
         let length = answer.map_or(0, Evidence::length);
@@ -107,33 +110,60 @@ impl<E: Stamped> Pair<E> {
     pub fn relate(&self, a: MarkId, b: MarkId) -> Result<Relation, Refusal> {
         let answer = self.model.relate(a, b);
         assert_eq!(self.engine.relate(a, b), answer, "relate {a} {b}");
+        self.count(Call::Relate, &answer);
         answer
     }
 
     pub fn first_apart(&self, a: MarkId, desk: u8) -> Result<u16, Refusal> {
         let answer = self.model.first_apart(a, desk);
         assert_eq!(self.engine.first_apart(a, desk), answer, "first apart {a} {desk}");
+        self.count(Call::FirstApart, &answer);
         answer
     }
 
     /// Apart into so many lent names: the marks.
     pub fn apart(&self, a: MarkId, room: usize) -> Result<Vec<MarkId>, Refusal> {
-        run(NAME, room, |out| self.model.apart(a, out), |out| self.engine.apart(a, out))
+        self.counted(Call::Apart, run(NAME, room, |out| self.model.apart(a, out), |out| self.engine.apart(a, out)))
     }
 
     /// Pair tables into so many lent counts: both tables.
     pub fn pair_tables(&self, lent: usize) -> Result<Vec<u32>, Refusal> {
-        self.ask(|desk| run(COUNT, lent, |out| desk.model.pair_tables(out), |out| desk.engine.pair_tables(out)))
+        let (model, engine) = (&self.model, &self.engine);
+        let made = self.ask(|_| run(COUNT, lent, |out| model.pair_tables(out), |out| engine.pair_tables(out)));
+        self.counted(Call::PairTables, made)
     }
 
     /// Frame again into so many lent bytes: the frame.
     pub fn frame_again(&self, a: MarkId, lent: usize) -> Result<Vec<u8>, Refusal> {
-        run(FILL, lent, |out| self.model.frame_again(a, out), |out| self.engine.frame_again(a, out))
+        let (model, engine) = (&self.model, &self.engine);
+        let made = run(FILL, lent, |out| model.frame_again(a, out), |out| engine.frame_again(a, out));
+        self.counted(Call::FrameAgain, made)
     }
 
     /// From edition 1 to 2 into so many lent bytes: the frame.
     pub fn to2(&self, frame: &[u8], lent: usize) -> Result<Vec<u8>, Refusal> {
-        self.ask(|desk| run(FILL, lent, |out| desk.model.to2(frame, out), |out| desk.engine.to2(frame, out)))
+        let (model, engine) = (&self.model, &self.engine);
+        let made = self.ask(|_| run(FILL, lent, |out| model.to2(frame, out), |out| engine.to2(frame, out)));
+        self.counted(Call::To2, made)
+    }
+
+    /// From edition 2 to 1 into so many lent bytes: the frame. No desk is needed, but this one counts it.
+    pub fn to1(&self, frame: &[u8], lent: usize) -> Result<Vec<u8>, Refusal> {
+        self.counted(Call::To1, to1(frame, lent))
+    }
+
+    /// What the calls have answered until now.
+    pub fn answers(&self) -> Answers {
+        *self.answers.borrow()
+    }
+
+    fn count<A>(&self, call: Call, answer: &Result<A, Refusal>) {
+        self.answers.borrow_mut().count(call, answer);
+    }
+
+    fn counted<A>(&self, call: Call, answer: Result<A, Refusal>) -> Result<A, Refusal> {
+        self.count(call, &answer);
+        answer
     }
 }
 
