@@ -24,8 +24,19 @@ typedef struct {
     size_t size;
 } frame;
 
+/* What is lent to a call: bytes for it to write, and a frame behind them; or names, or counts, with room behind them. */
+typedef union {
+    struct {
+        uint8_t bytes[KAUNGIMEWE_LARGEST_FRAME + 7];
+        frame given;
+    };
+    kaungimewe_mark_id names[8];
+    uint32_t counts[KAUNGIMEWE_PAIR_COUNTS + 88];
+} output;
+
 static kaungimewe_desk desk[5]; /* desk[d] is desk d */
 static kaungimewe_desk before;  /* a desk before the call, to compare with: no call is made with it */
+static output lent, untouched;  /* what is lent, and what it was before the call: each byte 0x77 */
 static unsigned passed, failed;
 
 static void check(int holds, const char *what)
@@ -48,6 +59,29 @@ static void check_unchanged(int d, const char *what)
     check(memcmp(&before, &desk[d], sizeof before) == 0, what);
 }
 
+/* Before a call that is to be refused: the desk is remembered, and what is lent has a value to know it by. */
+static void begin(int d)
+{
+    remember(d);
+    memset(&lent, 0x77, sizeof lent);
+    memset(&untouched, 0x77, sizeof untouched);
+}
+
+/* The frame is lent too. */
+static void lend(frame f)
+{
+    memcpy(&lent.given, &f, sizeof f);
+    memcpy(&untouched.given, &f, sizeof f);
+}
+
+/* After it: the answer is as it should be, the desk is as it was, and nothing is written. */
+static void check_refused(int d, int holds, const char *what)
+{
+    check(holds, what);
+    check_unchanged(d, "a refusal leaves the desk");
+    check(memcmp(&lent, &untouched, sizeof lent) == 0, "a refusal writes nothing");
+}
+
 /* Desk d makes a mark with the box 1,000 to 1,500 ms, 100 to 400 Hz. */
 static frame mark(int d, unsigned number, size_t size)
 {
@@ -59,15 +93,11 @@ static frame mark(int d, unsigned number, size_t size)
 }
 
 /* Desk d refuses to mark with this number, is as it was and has written nothing. */
-static void refuse_mark(int d, uint32_t end, size_t lent, unsigned refusal)
+static void refuse_mark(int d, uint32_t end, size_t room, unsigned refusal)
 {
-    uint8_t out[KAUNGIMEWE_LARGEST_FRAME];
-    memset(out, 0x77, sizeof out);
-    remember(d);
-    kaungimewe_mark_answer a = kaungimewe_mark(&desk[d], 1000, end, 100, 400, out, lent);
-    check(a.refusal == refusal && a.number == 0 && a.size == 0, "mark refuses");
-    check_unchanged(d, "a refused mark leaves the desk");
-    check(out[0] == 0x77, "a refused mark writes nothing");
+    begin(d);
+    kaungimewe_mark_answer a = kaungimewe_mark(&desk[d], 1000, end, 100, 400, lent.bytes, room);
+    check_refused(d, a.refusal == refusal && a.number == 0 && a.size == 0, "mark refuses");
 }
 
 /* Desk d receives a frame and sets its mark waiting, short of so many. */
@@ -90,13 +120,14 @@ static void receive(int d, frame f, unsigned kind, unsigned executed, unsigned d
     }
 }
 
-/* Desk d receives a frame, refuses it with this number and is as it was. */
+/* Desk d receives a frame, refuses it with this number and is as it was, and so is the frame. */
 static void refuse(int d, frame f, unsigned refusal)
 {
-    remember(d);
-    kaungimewe_receive_answer a = kaungimewe_receive(&desk[d], f.bytes, f.size);
-    check(a.refusal == refusal && a.kind == 0 && a.executed == 0 && a.dropped == 0 && a.missing == 0, "receive refuses");
-    check_unchanged(d, "a refusal leaves the desk");
+    begin(d);
+    lend(f);
+    kaungimewe_receive_answer a = kaungimewe_receive(&desk[d], lent.given.bytes, f.size);
+    check_refused(d, a.refusal == refusal && a.kind == 0 && a.executed == 0 && a.dropped == 0 && a.missing == 0,
+                  "receive refuses");
 }
 
 static unsigned relate(int d, uint8_t a_desk, uint16_t a_number, uint8_t b_desk, uint16_t b_number)
@@ -104,11 +135,22 @@ static unsigned relate(int d, uint8_t a_desk, uint16_t a_number, uint8_t b_desk,
     return kaungimewe_relate(&desk[d], a_desk, a_number, b_desk, b_number).relation;
 }
 
+/* Whether two desks are the same in every member. */
+static int same_desk(const kaungimewe_desk *a, const kaungimewe_desk *b)
+{
+    const size_t arrays = offsetof(kaungimewe_desk, desks);
+    return a->own == b->own && a->count == b->count &&
+           memcmp((const char *)a + arrays, (const char *)b + arrays, sizeof *a - arrays) == 0;
+}
+
 static void new_desks(void)
 {
-    kaungimewe_new_answer none = kaungimewe_new(17);
-    check(none.refusal == KAUNGIMEWE_DESK_RANGE && none.desk.own == 1 && none.desk.count == 0,
-          "a refused new gives an empty desk 1");
+    static const kaungimewe_desk empty = {.own = 1};
+    static const uint8_t none[] = {0, 17, 255};
+    for (size_t i = 0; i < sizeof none; i++) {
+        kaungimewe_new_answer a = kaungimewe_new(none[i]);
+        check(a.refusal == KAUNGIMEWE_DESK_RANGE && same_desk(&a.desk, &empty), "a refused new gives an empty desk 1");
+    }
     for (uint8_t d = 1; d <= 4; d++) {
         kaungimewe_new_answer a = kaungimewe_new(d);
         check(a.refusal == 0 && a.desk.own == d && a.desk.count == 0, "new gives an empty desk");
@@ -152,12 +194,21 @@ static int named(kaungimewe_mark_id id, unsigned d, unsigned number)
     return id.desk == d && id.number == number;
 }
 
+/* Desk 3 says with this room and refusal nothing of the marks apart from 4.n. */
+static void refuse_apart(uint16_t number, size_t room, unsigned refusal)
+{
+    begin(3);
+    kaungimewe_apart_answer a = kaungimewe_apart(&desk[3], 4, number, lent.names, room);
+    check_refused(3, a.refusal == refusal && a.count == 0, "apart refuses");
+}
+
 static void check_apart(void)
 {
     kaungimewe_mark_id out[4] = {{99, 9}, {99, 9}, {99, 9}, {99, 9}};
-    check(kaungimewe_apart(&desk[3], 4, 1, out, 2).refusal == KAUNGIMEWE_OUTPUT_SHORT, "room for two");
-    check(kaungimewe_apart(&desk[3], 4, 2, out, 4).refusal == KAUNGIMEWE_NOT_EXECUTED, "4.2 is not there");
-    check(named(out[0], 99, 9), "a refused apart writes nothing");
+    refuse_apart(1, 2, KAUNGIMEWE_OUTPUT_SHORT);
+    refuse_apart(1, 0, KAUNGIMEWE_OUTPUT_SHORT);
+    refuse_apart(2, 4, KAUNGIMEWE_NOT_EXECUTED);
+    refuse_apart(2, 0, KAUNGIMEWE_NOT_EXECUTED);
     kaungimewe_apart_answer a = kaungimewe_apart(&desk[3], 4, 1, out, 4);
     check(a.refusal == 0 && a.count == 3, "three marks are apart from 4.1");
     check(named(out[0], 2, 1) && named(out[1], 1, 2) && named(out[2], 2, 2), "they are 2.1, 1.2, 2.2");
@@ -165,24 +216,30 @@ static void check_apart(void)
     check(kaungimewe_apart(&desk[3], 4, 1, out, 3).count == 3, "room for three");
 }
 
+/* So many counts are too few for desk d's tables. */
+static void refuse_pair_tables(int d, size_t room)
+{
+    begin(d);
+    kaungimewe_pairs_answer a = kaungimewe_pair_tables(&desk[d], lent.counts, room);
+    check_refused(d, a.refusal == KAUNGIMEWE_OUTPUT_SHORT && a.count == 0, "too few counts");
+}
+
 /* Desk d's tables: the counts of desks 1 to 4 in the first and in the second. */
 static void check_pair_tables(int d, const uint32_t apart[4][4], const uint32_t precedes[4][4])
 {
     enum { TABLE = KAUNGIMEWE_PAIR_COUNTS / 2, LENT = KAUNGIMEWE_PAIR_COUNTS + 88 };
     uint32_t out[LENT], expected[LENT];
+    refuse_pair_tables(d, KAUNGIMEWE_PAIR_COUNTS - 1);
+    refuse_pair_tables(d, 0);
+    remember(d);
     memset(out, 0x77, sizeof out);
     memset(expected, 0x77, sizeof expected);
-    remember(d);
-    kaungimewe_pairs_answer a = kaungimewe_pair_tables(&desk[d], out, KAUNGIMEWE_PAIR_COUNTS - 1);
-    check(a.refusal == KAUNGIMEWE_OUTPUT_SHORT && a.count == 0, "511 counts are too few");
-    check(kaungimewe_pair_tables(&desk[d], out, 0).refusal == KAUNGIMEWE_OUTPUT_SHORT, "no counts are too few");
-    check(memcmp(out, expected, sizeof out) == 0, "refused pair tables write nothing");
     memset(expected, 0, KAUNGIMEWE_PAIR_COUNTS * sizeof expected[0]);
     for (int i = 0; i < 4; i++) {
         memcpy(&expected[KAUNGIMEWE_DESKS * i], apart[i], sizeof apart[i]);
         memcpy(&expected[TABLE + KAUNGIMEWE_DESKS * i], precedes[i], sizeof precedes[i]);
     }
-    a = kaungimewe_pair_tables(&desk[d], out, LENT);
+    kaungimewe_pairs_answer a = kaungimewe_pair_tables(&desk[d], out, LENT);
     check(a.refusal == 0 && a.count == KAUNGIMEWE_PAIR_COUNTS, "pair tables answer how many counts are written");
     check(memcmp(out, expected, sizeof out) == 0, "the tables, and later counts keep their values");
     check(kaungimewe_pair_tables(&desk[d], out, KAUNGIMEWE_PAIR_COUNTS).count == 512, "512 counts are enough");
@@ -206,13 +263,31 @@ static void check_pairs(void)
     check(out[291] == 2, "both marks of desk 3 precede 4.1");
 }
 
+/* Desk 3 refuses with this number to say which mark of a desk is the first apart from 4.n. */
+static void refuse_first_apart(uint16_t number, uint8_t of, unsigned refusal)
+{
+    begin(3);
+    kaungimewe_first_answer a = kaungimewe_first_apart(&desk[3], 4, number, of);
+    check_refused(3, a.refusal == refusal && a.number == 0, "first apart refuses");
+}
+
 static void check_first_apart(void)
 {
     check(kaungimewe_first_apart(&desk[3], 4, 1, 1).number == 2, "first apart of 4.1 at desk 1");
     check(kaungimewe_first_apart(&desk[3], 4, 1, 2).number == 1, "first apart of 4.1 at desk 2");
     check(kaungimewe_first_apart(&desk[3], 4, 1, 3).number == 0, "first apart of 4.1 at desk 3");
     check(kaungimewe_first_apart(&desk[3], 4, 1, 4).number == 0, "first apart of 4.1 at desk 4");
-    check(kaungimewe_first_apart(&desk[3], 4, 1, 17).refusal == KAUNGIMEWE_DESK_RANGE, "desk 17");
+    refuse_first_apart(1, 17, KAUNGIMEWE_DESK_RANGE);
+    refuse_first_apart(2, 0, KAUNGIMEWE_DESK_RANGE);
+    refuse_first_apart(2, 1, KAUNGIMEWE_NOT_EXECUTED);
+}
+
+/* Desk 3 does not relate 4.n and 4.m. */
+static void refuse_relate(uint16_t n, uint16_t m)
+{
+    begin(3);
+    kaungimewe_relate_answer a = kaungimewe_relate(&desk[3], 4, n, 4, m);
+    check_refused(3, a.refusal == KAUNGIMEWE_NOT_EXECUTED && a.relation == 0, "4.2 is not there");
 }
 
 static void check_relations(void)
@@ -221,16 +296,18 @@ static void check_relations(void)
     check(relate(3, 1, 2, 3, 2) == KAUNGIMEWE_CONCURRENT, "1.2 concurrent with 3.2");
     check(relate(3, 2, 2, 1, 1) == KAUNGIMEWE_AFTER, "2.2 after 1.1");
     check(relate(3, 4, 1, 4, 1) == KAUNGIMEWE_SAME, "4.1 the same as 4.1");
-    check(kaungimewe_relate(&desk[3], 4, 1, 4, 2).refusal == KAUNGIMEWE_NOT_EXECUTED, "4.2 is not there");
+    refuse_relate(1, 2);
+    refuse_relate(2, 1);
+    refuse_relate(2, 2);
 }
 
 /* Desk 3 gives no evidence of the two marks with this room and refusal, and writes nothing. */
 static void refuse_evidence(kaungimewe_mark_id a, kaungimewe_mark_id b, size_t room, unsigned refusal)
 {
-    kaungimewe_mark_id out[4] = {{99, 9}, {99, 9}, {99, 9}, {99, 9}};
-    kaungimewe_evidence_answer e = kaungimewe_evidence(&desk[3], a.desk, a.number, b.desk, b.number, out, room);
-    check(e.refusal == refusal && e.relation == 0 && e.length == 0 && e.first == 0 && e.second == 0, "evidence refuses");
-    check(named(out[0], 99, 9) && named(out[1], 99, 9), "refused evidence writes nothing");
+    begin(3);
+    kaungimewe_evidence_answer e = kaungimewe_evidence(&desk[3], a.desk, a.number, b.desk, b.number, lent.names, room);
+    check_refused(3, e.refusal == refusal && e.relation == 0 && e.length == 0 && e.first == 0 && e.second == 0,
+                  "evidence refuses");
 }
 
 static void check_evidence(void)
@@ -252,26 +329,72 @@ static void check_evidence(void)
     e = kaungimewe_evidence(&desk[3], 2, 2, 1, 1, out, 4);
     check(e.refusal == 0 && e.relation == KAUNGIMEWE_AFTER && e.length == 3 && e.second == 0, "2.2 after 1.1");
     check(named(out[0], 1, 1) && named(out[2], 2, 2), "the chain is from the earlier to the later mark");
+    check_unchanged(3, "evidence leaves the desk");
     refuse_evidence(m22, m11, 2, KAUNGIMEWE_OUTPUT_SHORT);
     refuse_evidence(m41, m41, 0, KAUNGIMEWE_OUTPUT_SHORT);
     refuse_evidence(m41, m42, 0, KAUNGIMEWE_NOT_EXECUTED);
     refuse_evidence(m42, m41, 4, KAUNGIMEWE_NOT_EXECUTED);
-    check_unchanged(3, "evidence leaves the desk");
+}
+
+/* Desk 3 does not write the frame of 1.n again into so many bytes. */
+static void refuse_frame_again(uint16_t number, size_t room, unsigned refusal)
+{
+    begin(3);
+    kaungimewe_write_answer a = kaungimewe_frame_again(&desk[3], 1, number, lent.bytes, room);
+    check_refused(3, a.refusal == refusal && a.size == 0, "frame again refuses");
+}
+
+/* The reader refuses so many bytes of a frame; every field of its answer is 0. */
+static void refuse_read(frame f, size_t size, unsigned refusal)
+{
+    static const kaungimewe_box none;
+    begin(3);
+    lend(f);
+    kaungimewe_read_answer r = kaungimewe_read(lent.given.bytes, size);
+    check(r.desk == 0 && r.number == 0 && memcmp(&r.extent, &none, sizeof none) == 0, "a refused frame has no fields");
+    check_refused(3, r.refusal == refusal && r.edition == 0 && r.past == 0 && r.entries_size == 0, "the reader refuses");
+}
+
+/* Both writers refuse 1.2 with the entries of a frame of edition 1, but for the last so many bytes. */
+static void refuse_write(frame f, size_t fewer, uint32_t end, size_t room, unsigned refusal)
+{
+    begin(3);
+    lend(f);
+    const uint8_t *entries = lent.given.bytes + KAUNGIMEWE_HEAD;
+    size_t size = f.size - KAUNGIMEWE_HEAD - fewer;
+    kaungimewe_write_answer a = kaungimewe_write(1, 2, 1000, end, 100, 400, entries, size, lent.bytes, room);
+    check_refused(3, a.refusal == refusal && a.size == 0, "the writer of edition 1 refuses");
+    a = kaungimewe_write2(1, 2, 1000, end, 100, 400, 3, entries, size, lent.bytes, room);
+    check_refused(3, a.refusal == refusal && a.size == 0, "the writer of edition 2 refuses");
+}
+
+/* 1.2 with entries that are too few bytes, a broken box, a wrong entry, and into too few bytes; each before the next. */
+static void check_refused_writes(void)
+{
+    frame wrong = f12_1;
+    wrong.bytes[KAUNGIMEWE_HEAD] = 0;
+    refuse_write(wrong, 1, 999, 0, KAUNGIMEWE_ENTRY_COUNT);
+    refuse_write(wrong, 0, 999, 0, KAUNGIMEWE_FIELD_RANGE);
+    refuse_write(wrong, 0, 1500, 0, KAUNGIMEWE_ENTRY_RANGE);
+    refuse_write(f12_1, 0, 1500, 0, KAUNGIMEWE_OUTPUT_SHORT);
+    refuse_write(f12_1, 0, 1500, 31, KAUNGIMEWE_OUTPUT_SHORT);
 }
 
 static void check_frames(void)
 {
     uint8_t out[40];
     memset(out, 0x77, sizeof out);
-    check(kaungimewe_frame_again(&desk[3], 1, 2, out, 33).refusal == KAUNGIMEWE_OUTPUT_SHORT, "33 bytes are too few");
-    check(out[0] == 0x77, "a refusal writes nothing");
+    refuse_frame_again(2, 33, KAUNGIMEWE_OUTPUT_SHORT);
+    refuse_frame_again(2, 0, KAUNGIMEWE_OUTPUT_SHORT);
+    refuse_frame_again(3, 0, KAUNGIMEWE_NOT_EXECUTED);
     check(kaungimewe_frame_again(&desk[3], 1, 2, out, sizeof out).size == 34, "frame again answers its size");
     check(memcmp(out, f12_2.bytes, 34) == 0 && out[34] == 0x77, "frame again writes the frame and no more");
 
     kaungimewe_read_answer r = kaungimewe_read(out, 34), s = kaungimewe_read(f12_1.bytes, f12_1.size);
     check(r.refusal == 0 && r.desk == 1 && r.number == 2 && r.extent.high == 400 && r.entries_size == 9, "the reader");
     check(r.edition == 2 && r.past == 3 && s.edition == 1 && s.past == 0 && s.entries_size == 9, "both editions");
-    check(kaungimewe_read(out, 22).refusal == KAUNGIMEWE_FRAME_LENGTH, "22 bytes");
+    refuse_read(f12_2, 22, KAUNGIMEWE_FRAME_LENGTH);
+    check_refused_writes();
 
     const uint8_t *entries = f12_1.bytes + KAUNGIMEWE_HEAD;
     frame g;
@@ -279,22 +402,27 @@ static void check_frames(void)
     check(equal(g, f12_1), "the writer of edition 1");
     g.size = kaungimewe_write2(1, 2, 1000, 1500, 100, 400, 3, entries, 9, g.bytes, sizeof g.bytes).size;
     check(equal(g, f12_2), "the writer of edition 2");
-    check(kaungimewe_write2(1, 2, 1000, 1500, 100, 400, 512, entries, 9, g.bytes, sizeof g.bytes).refusal ==
-              KAUNGIMEWE_FIELD_RANGE,
-          "a past count of 512");
+    begin(3);
+    kaungimewe_write_answer a = kaungimewe_write2(1, 2, 1000, 1500, 100, 400, 512, entries, 9, lent.bytes, sizeof g.bytes);
+    check_refused(3, a.refusal == KAUNGIMEWE_FIELD_RANGE && a.size == 0, "a past count of 512");
 }
 
-/* Desk d converts a frame to edition 2: it refuses with this number, or writes those 34 bytes. */
-static void to2(int d, frame f, size_t lent, unsigned refusal)
+/* Desk d does not convert a frame to edition 2. */
+static void refuse_to2(int d, frame f, size_t room, unsigned refusal)
 {
-    frame g;
-    memset(g.bytes, 0x77, sizeof g.bytes);
-    remember(d);
-    kaungimewe_write_answer a = kaungimewe_to2(&desk[d], f.bytes, f.size, g.bytes, lent);
-    g.size = a.size;
-    check(a.refusal == refusal, "to edition 2, or the refusal");
-    check(refusal == 0 ? equal(g, f12_2) : a.size == 0 && g.bytes[0] == 0x77, "the frame is written, or nothing");
-    check_unchanged(d, "a conversion leaves the desk");
+    begin(d);
+    lend(f);
+    kaungimewe_write_answer a = kaungimewe_to2(&desk[d], lent.given.bytes, f.size, lent.bytes, room);
+    check_refused(d, a.refusal == refusal && a.size == 0, "to edition 2 is refused");
+}
+
+/* A frame is not converted to edition 1. */
+static void refuse_to1(frame f, size_t room, unsigned refusal)
+{
+    begin(3);
+    lend(f);
+    kaungimewe_write_answer a = kaungimewe_to1(lent.given.bytes, f.size, lent.bytes, room);
+    check_refused(3, a.refusal == refusal && a.size == 0, "to edition 1 is refused");
 }
 
 /* 1.2 from one edition to the other, at desk 1 and at a fresh desk 4. */
@@ -306,18 +434,23 @@ static void check_conversions(void)
     over.bytes[23] = 2; /* past count 512 */
     over.bytes[24] = 0;
     desk[4] = kaungimewe_new(4).desk;
-    to2(1, f12_1, 34, KAUNGIMEWE_NOT_REFUSED);
-    to2(1, f12_1, 33, KAUNGIMEWE_OUTPUT_SHORT);
-    to2(4, f12_1, 0, KAUNGIMEWE_NOT_EXECUTED);
-    to2(1, later, 0, KAUNGIMEWE_OTHER_FIELDS);
-    to2(1, f12_2, sizeof g.bytes, KAUNGIMEWE_SAME_EDITION);
-    to2(1, over, sizeof g.bytes, KAUNGIMEWE_FIELD_RANGE);
+    remember(1);
+    g.size = kaungimewe_to2(&desk[1], f12_1.bytes, f12_1.size, g.bytes, 34).size;
+    check(equal(g, f12_2), "to edition 2");
+    check_unchanged(1, "a conversion leaves the desk");
+    refuse_to2(1, f12_1, 33, KAUNGIMEWE_OUTPUT_SHORT);
+    refuse_to2(4, f12_1, 0, KAUNGIMEWE_NOT_EXECUTED);
+    refuse_to2(1, later, 0, KAUNGIMEWE_OTHER_FIELDS);
+    refuse_to2(1, f12_2, sizeof g.bytes, KAUNGIMEWE_SAME_EDITION);
+    refuse_to2(1, f12_2, 0, KAUNGIMEWE_SAME_EDITION);
+    refuse_to2(1, over, sizeof g.bytes, KAUNGIMEWE_FIELD_RANGE);
     g.size = kaungimewe_to1(f12_2.bytes, f12_2.size, g.bytes, 32).size;
     check(equal(g, f12_1), "to edition 1");
     g.size = kaungimewe_to1(lie.bytes, lie.size, g.bytes, 32).size;
     check(equal(g, f12_1), "to edition 1 the past count is not judged");
-    check(kaungimewe_to1(f12_2.bytes, f12_2.size, g.bytes, 31).refusal == KAUNGIMEWE_OUTPUT_SHORT, "31 bytes");
-    check(kaungimewe_to1(f12_1.bytes, f12_1.size, g.bytes, 0).refusal == KAUNGIMEWE_SAME_EDITION, "it is of edition 1");
+    refuse_to1(f12_2, 31, KAUNGIMEWE_OUTPUT_SHORT);
+    refuse_to1(f12_1, 0, KAUNGIMEWE_SAME_EDITION);
+    refuse_to1(over, 0, KAUNGIMEWE_FIELD_RANGE);
 }
 
 /* A fresh desk 2 gets 1.1 with a false past count, with its true one, in edition 1, and with the false one again. */
@@ -365,7 +498,7 @@ static void check_click(void)
     check(r.refusal == 0 && r.extent.start == 1000 && r.extent.end == 1000, "a click is made and read");
     receive(2, click, KAUNGIMEWE_EXECUTED, 1, 0);
     click.bytes[9]++;
-    check(kaungimewe_read(click.bytes, click.size).refusal == KAUNGIMEWE_FIELD_RANGE, "1,001 to 1,000 ms");
+    refuse_read(click, click.size, KAUNGIMEWE_FIELD_RANGE);
     refuse(2, click, KAUNGIMEWE_FIELD_RANGE);
 }
 
