@@ -24,7 +24,7 @@ typedef struct {
     size_t size;
 } frame;
 
-/* What is lent to a call: bytes for it to write, and a frame behind them; or names, or counts, with room behind them. */
+/* What is lent to a call: bytes for it to write, and a frame behind them; or names, or counts, with room to spare. */
 typedef union {
     struct {
         uint8_t bytes[KAUNGIMEWE_LARGEST_FRAME + 7];
@@ -352,7 +352,8 @@ static void refuse_read(frame f, size_t size, unsigned refusal)
     lend(f);
     kaungimewe_read_answer r = kaungimewe_read(lent.given.bytes, size);
     check(r.desk == 0 && r.number == 0 && memcmp(&r.extent, &none, sizeof none) == 0, "a refused frame has no fields");
-    check_refused(3, r.refusal == refusal && r.edition == 0 && r.past == 0 && r.entries_size == 0, "the reader refuses");
+    check(r.edition == 0 && r.past == 0 && r.entries_size == 0, "nor an edition, a past count or entries");
+    check_refused(3, r.refusal == refusal, "the reader refuses");
 }
 
 /* Both writers refuse 1.2 with the entries of a frame of edition 1, but for the last so many bytes. */
@@ -368,7 +369,7 @@ static void refuse_write(frame f, size_t fewer, uint32_t end, size_t room, unsig
     check_refused(3, a.refusal == refusal && a.size == 0, "the writer of edition 2 refuses");
 }
 
-/* 1.2 with entries that are too few bytes, a broken box, a wrong entry, and into too few bytes; each before the next. */
+/* 1.2 with a byte of its entries missing, a broken box, a wrong entry, and into too few bytes; each before the next. */
 static void check_refused_writes(void)
 {
     frame wrong = f12_1;
@@ -403,7 +404,7 @@ static void check_frames(void)
     g.size = kaungimewe_write2(1, 2, 1000, 1500, 100, 400, 3, entries, 9, g.bytes, sizeof g.bytes).size;
     check(equal(g, f12_2), "the writer of edition 2");
     begin(3);
-    kaungimewe_write_answer a = kaungimewe_write2(1, 2, 1000, 1500, 100, 400, 512, entries, 9, lent.bytes, sizeof g.bytes);
+    kaungimewe_write_answer a = kaungimewe_write2(1, 2, 1000, 1500, 100, 400, 512, entries, 9, lent.bytes, 34);
     check_refused(3, a.refusal == KAUNGIMEWE_FIELD_RANGE && a.size == 0, "a past count of 512");
 }
 

@@ -31,18 +31,18 @@ kaungimewe_new_answer faulty_new(uint8_t own)
 /* Which refusal Mark answers in place of its own. */
 static unsigned mark_refusal(const kaungimewe_desk *desk, size_t lent, unsigned refusal)
 {
-    int is_short = lent < KAUNGIMEWE_HEAD2;
     if (chosen(mark_9_before_5) && refusal == 5 && full(desk)) {
         return 9;
     }
-    if ((chosen(mark_13_before_5) && refusal == 5 && is_short) || (chosen(mark_13_before_9) && refusal == 9 && is_short)) {
-        return 13;
+    if (lent >= KAUNGIMEWE_HEAD2) {
+        return refusal;
     }
-    return refusal;
+    return (chosen(mark_13_before_5) && refusal == 5) || (chosen(mark_13_before_9) && refusal == 9) ? 13 : refusal;
 }
 
 /* What a refused Mark does that it should not. */
-static void refused_mark(kaungimewe_desk *desk, kaungimewe_box box, uint8_t *out, size_t lent, kaungimewe_mark_answer *a)
+static void refused_mark(kaungimewe_desk *desk, kaungimewe_box box, uint8_t *out, size_t lent,
+                         kaungimewe_mark_answer *a)
 {
     if (chosen(refused_mark_byte) && lent > 0) {
         out[lent - 1] = 0;
@@ -142,7 +142,8 @@ static unsigned full_refusal(const kaungimewe_desk *desk, const uint8_t *frame, 
     if (refusal != 9 || desk->queue.count == 0) {
         return refusal;
     }
-    if (chosen(receive_10_before_9) && desk->queue.count == 64 && unqueued(desk, frame, size).kind == KAUNGIMEWE_WAITS) {
+    if (chosen(receive_10_before_9) && desk->queue.count == 64 &&
+        unqueued(desk, frame, size).kind == KAUNGIMEWE_WAITS) {
         return 10;
     }
     if (chosen(receive_11_before_9) && unqueued(desk, frame, size).refusal == 11) {

@@ -1,4 +1,4 @@
-/* The exports, in front of the calls with the planted faults: all that is lent of a desk is of one, which is found by it. */
+/* The exports, in front of the calls with the planted faults. What is lent of a desk is of one, which is found by it. */
 #include "faulty.h"
 
 /* The desk of which an array is lent. */
@@ -116,14 +116,16 @@ kaungimewe_write_answer kaungimewe_write(uint8_t desk, uint16_t number, uint32_t
                                          uint32_t high, const uint8_t *entries, size_t entries_size, uint8_t *out,
                                          size_t lent)
 {
-    return faulty_write((told_fields){1, desk, number, 0, {start, end, low, high}, entries, entries_size}, out, lent);
+    told_fields f = {1, desk, number, 0, {start, end, low, high}, entries, entries_size};
+    return faulty_write(f, out, lent);
 }
 
 kaungimewe_write_answer kaungimewe_write2(uint8_t desk, uint16_t number, uint32_t start, uint32_t end, uint32_t low,
                                           uint32_t high, uint16_t past, const uint8_t *entries, size_t entries_size,
                                           uint8_t *out, size_t lent)
 {
-    return faulty_write((told_fields){2, desk, number, past, {start, end, low, high}, entries, entries_size}, out, lent);
+    told_fields f = {2, desk, number, past, {start, end, low, high}, entries, entries_size};
+    return faulty_write(f, out, lent);
 }
 
 kaungimewe_read_answer kaungimewe_read(const uint8_t *frame, size_t size)

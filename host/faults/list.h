@@ -1,4 +1,4 @@
-/* The planted faults, one a line: its name, and what it does. C reads the list as a macro, host/test with sed. */
+/* The planted faults, one a line: its name, and what it does. C reads the list as a macro, host/faults/run with sed. */
 FAULT(new_16_refused, "New of 16 is refused")
 FAULT(new_0_as_1, "New of 0 gives desk 1")
 FAULT(refused_new_own, "a refused New gives a desk of the refused number beside the 1")

@@ -16,7 +16,10 @@ static int last_place(const kaungimewe_desk *desk, kaungimewe_mark_id a)
 /* Before for After and After for Before. */
 static uint8_t swapped(uint8_t relation)
 {
-    return relation == KAUNGIMEWE_BEFORE ? KAUNGIMEWE_AFTER : relation == KAUNGIMEWE_AFTER ? KAUNGIMEWE_BEFORE : relation;
+    if (relation == KAUNGIMEWE_BEFORE) {
+        return KAUNGIMEWE_AFTER;
+    }
+    return relation == KAUNGIMEWE_AFTER ? KAUNGIMEWE_BEFORE : relation;
 }
 
 /* 13 in place of 12 where nothing is lent. */

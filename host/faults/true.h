@@ -1,5 +1,5 @@
-/* The header of the engine for the faults: every call here is the true one, whose export has been given a name of its own.
- * host/test reads the names from this file. */
+/* The header of the engine for the faults: every call here is the true one, whose export has got another name.
+ * host/faults/run reads the names from this file. */
 #ifndef FAULTS_TRUE_H
 #define FAULTS_TRUE_H
 

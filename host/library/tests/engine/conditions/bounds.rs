@@ -1,12 +1,14 @@
 //! Names, numbers and counts at their bounds: what is asked of the last marks of full desks.
-use kaungimewe::{Desk, Evidence, MarkId, PastCount, Reception, Refusal, Relation, LARGEST_FRAME, PAIR_COUNTS};
+use kaungimewe::{
+    reader, Desk, Evidence, Fields, MarkId, PastCount, Reception, Refusal, Relation, LARGEST_FRAME, PAIR_COUNTS,
+};
 
 use crate::clicks::with_own;
 use crate::damaged::compare_readers;
 use crate::examples::id;
 use crate::full::chained;
 use crate::missing::fresh;
-use crate::pair::{edition1, executed, to1, waiting, Pair};
+use crate::pair::{edition1, executed, to1, waiting, write, Pair};
 use crate::pinned::{desk, spelled, BOX};
 use crate::tables::indexes;
 
@@ -109,4 +111,58 @@ fn of_the_largest_frames() {
     }
     let entries: Vec<(u8, u16)> = (2..=16).map(|desk| (desk, 1)).collect();
     assert_eq!(fresh(1, (16, 9), &entries), waiting(16));
+}
+
+/// A desk 16 whose next stamp has sixteen entries, its own first mark among them.
+fn with_sixteen_heads() -> Pair<Desk> {
+    let mut desk = with_own(16, 1);
+    for other in 1..=15 {
+        assert_eq!(desk.receive(&chained(other, 1)), executed(1, 0));
+    }
+    desk
+}
+
+/// A stamp of sixteen entries is made, read, turned and received; its frame of edition 2 has 73 bytes.
+#[test]
+fn of_a_stamp_of_sixteen_entries() {
+    let mut desk = with_sixteen_heads();
+    assert_eq!(desk.mark(BOX, 72), Err(Refusal::OutputShort));
+    let first = desk.frame_again(id(16, 1), 25).expect("it is executed");
+    let (made, frame) = desk.mark(BOX, 73).expect("room for a mark");
+    assert_eq!((made.number, made.size), (2, 73));
+    compare_readers(&frame);
+    let turned = to1(&frame, 71).expect("enough is lent");
+    assert_eq!((to1(&frame, 70), desk.to2(&turned, 72)), (Err(Refusal::OutputShort), Err(Refusal::OutputShort)));
+    assert_eq!((desk.to2(&turned, 73), desk.frame_again(id(16, 2), 73)), (Ok(frame.clone()), Ok(frame.clone())));
+    assert_eq!(desk.frame_again(id(16, 2), 72), Err(Refusal::OutputShort));
+    for frame in [&frame, &turned] {
+        let mut other = Pair::<Desk>::new(1);
+        other.make();
+        assert_eq!(other.receive(frame), waiting(15));
+        (2..=15).for_each(|maker| assert_eq!(other.receive(&chained(maker, 1)), executed(1, 0)));
+        assert_eq!(other.receive(&first), executed(2, 0));
+    }
+}
+
+/// However much is lent, no call takes it for less.
+#[test]
+fn of_what_is_lent() {
+    let lents = [255, 256, 257, 511, 512, 513, 65_535, 65_536, 65_537, 131_072];
+    let full = with_last(256);
+    let (a, b) = (id(15, 1), id(16, 1));
+    let frame = full.frame_again(b, 28).expect("it is executed");
+    let turned = to1(&frame, 26).expect("enough is lent");
+    let fields = reader(&frame).expect("a frame");
+    for lent in lents {
+        let made = with_own(1, 3).mark(BOX, lent).map(|(made, _)| (made.number, made.size));
+        assert_eq!(made, Ok((4, 28)), "{lent} lent");
+        assert_eq!(full.frame_again(b, lent).as_ref(), Ok(&frame), "{lent} lent");
+        assert_eq!(full.to2(&turned, lent).as_ref(), Ok(&frame), "{lent} lent");
+        assert_eq!(to1(&frame, lent).as_ref(), Ok(&turned), "{lent} lent");
+        assert_eq!(write(fields, lent).as_ref(), Ok(&frame), "{lent} lent");
+        assert_eq!(write(Fields { past: PastCount::Unsaid, ..fields }, lent).as_ref(), Ok(&turned), "{lent} lent");
+        assert_eq!(full.apart(b, lent).is_ok(), lent >= 255, "{lent} lent");
+        assert_eq!(full.evidence(a, b, lent).is_ok(), lent >= 257, "{lent} lent");
+        assert_eq!(full.pair_tables(lent).is_ok(), lent >= 512, "{lent} lent");
+    }
 }

@@ -72,7 +72,9 @@ fn second_rows() -> Vec<Row<Question>> {
         row(Refusal::NotExecuted, "the second waiting", |case| case.b = id(1, 3)),
         row(Refusal::NotExecuted, "the second of number 0", |case| case.b = id(1, 0)),
         row(Refusal::NotExecuted, "the second of desk 17", |case| case.b = id(17, 1)),
-        row(Refusal::NotExecuted, "neither made", |case| (case.a, case.b) = (id(16, 512), id(16, 512))),
+        row(Refusal::NotExecuted, "one mark, not made", |case| (case.a, case.b) = (id(16, 512), id(16, 512))),
+        row(Refusal::NotExecuted, "one mark, waiting", |case| (case.a, case.b) = (id(1, 3), id(1, 3))),
+        row(Refusal::NotExecuted, "one mark of desk 17", |case| (case.a, case.b) = (id(17, 1), id(17, 1))),
     ]
 }
 
