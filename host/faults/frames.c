@@ -34,7 +34,7 @@ static uint8_t read_refusal(const uint8_t *frame, uint8_t refusal)
 
 kaungimewe_read_answer faulty_read(const uint8_t *frame, size_t size)
 {
-    size = chosen(read_size_16_bits) ? size % 65536 : size;
+    size = modulo(read_size_16_bits, size, 65536);
     kaungimewe_read_answer r = kaungimewe_read(frame, size);
     if (chosen(read_past_512) && r.refusal == 5 && frame[2] == 2 && frame[23] == 2 && frame[24] == 0) {
         return read_512(frame, size);
@@ -45,6 +45,12 @@ kaungimewe_read_answer faulty_read(const uint8_t *frame, size_t size)
     }
     if (chosen(read_16_entries) && r.entries_size == 48) {
         r.entries_size -= 3;
+    }
+    if (chosen(read_number_512) && r.number == 512) {
+        r = (kaungimewe_read_answer){.refusal = 5};
+    }
+    if (chosen(refused_read_frame) && r.refusal == 4) {
+        ((uint8_t *)frame)[22] = 0;
     }
     return r;
 }
@@ -86,11 +92,10 @@ static uint8_t write_refusal(told_fields f, size_t lent, uint8_t refusal)
 
 kaungimewe_write_answer faulty_write(told_fields f, uint8_t *out, size_t lent)
 {
-    if (chosen(write_size_8_bits)) {
-        f.entries_size %= 256;
-    }
-    if (chosen(write_size_16_bits)) {
-        f.entries_size %= 65536;
+    f.entries_size = modulo(write_size_8_bits, modulo(write_size_16_bits, f.entries_size, 65536), 256);
+    lent = modulo(write_lent_16_bits, lent, 65536);
+    if (chosen(write_16_entries) && f.entries_size == 48) {
+        return (kaungimewe_write_answer){.refusal = 4};
     }
     if (chosen(write2_past_512) && f.edition == 2 && f.past == 512) {
         return write_512(f, out, lent);
@@ -118,7 +123,7 @@ static uint8_t to2_short(uint8_t refusal)
 static uint8_t to2_refusal(const kaungimewe_desk *desk, const uint8_t *frame, size_t size, uint8_t refusal)
 {
     kaungimewe_desk copy = *desk;
-    uint16_t number = size > 5 ? (uint16_t)(frame[4] << 8 | frame[5]) : 0;
+    uint16_t number = size > 5 ? two(frame + 4) : 0;
     if (chosen(to2_14_before_6) && refusal == 6 && frame[2] == 2) {
         return 14;
     }
@@ -133,7 +138,8 @@ static uint8_t to2_refusal(const kaungimewe_desk *desk, const uint8_t *frame, si
 
 kaungimewe_write_answer faulty_to2(kaungimewe_desk *desk, const uint8_t *frame, size_t size, uint8_t *out, size_t lent)
 {
-    size = chosen(to2_size_16_bits) ? size % 65536 : size;
+    size = modulo(to2_size_16_bits, size, 65536);
+    lent = modulo(to2_lent_8_bits, lent, 256);
     kaungimewe_write_answer w = kaungimewe_to2(desk, frame, size, out, lent);
     w.refusal = lent == 0 ? to2_short(w.refusal) : w.refusal;
     w.refusal = to2_refusal(desk, frame, size, w.refusal);
@@ -142,7 +148,8 @@ kaungimewe_write_answer faulty_to2(kaungimewe_desk *desk, const uint8_t *frame, 
 
 kaungimewe_write_answer faulty_to1(const uint8_t *frame, size_t size, uint8_t *out, size_t lent)
 {
-    size = chosen(to1_size_16_bits) ? size % 65536 : size;
+    size = modulo(to1_size_16_bits, size, 65536);
+    lent = modulo(to1_lent_16_bits, lent, 65536);
     kaungimewe_write_answer w = kaungimewe_to1(frame, size, out, lent);
     if (chosen(to1_14_before_5) && w.refusal == 5 && frame[2] == 1) {
         w.refusal = 14;

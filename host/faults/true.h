@@ -20,4 +20,21 @@
 
 #include "faulty.h"
 
+static inline int full(const kaungimewe_desk *desk)
+{
+    return desk->count + desk->queue.count == KAUNGIMEWE_PLACES;
+}
+
+/* A number of two bytes. */
+static inline uint16_t two(const uint8_t *bytes)
+{
+    return (uint16_t)(bytes[0] << 8 | bytes[1]);
+}
+
+/* A length, modulo 256 or 65,536 where that fault is chosen. */
+static inline size_t modulo(enum fault fault, size_t length, size_t bound)
+{
+    return chosen(fault) ? length % bound : length;
+}
+
 #endif

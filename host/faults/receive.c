@@ -1,80 +1,7 @@
-/* Planted faults of New, Mark and Receive. */
+/* Planted faults of Receive. */
 #include <string.h>
 
 #include "true.h"
-
-static int full(const kaungimewe_desk *desk)
-{
-    return desk->count + desk->queue.count == KAUNGIMEWE_PLACES;
-}
-
-static uint16_t two(const uint8_t *bytes)
-{
-    return (uint16_t)(bytes[0] << 8 | bytes[1]);
-}
-
-kaungimewe_new_answer faulty_new(uint8_t own)
-{
-    kaungimewe_new_answer a = kaungimewe_new(own);
-    if (chosen(new_16_refused) && own == 16) {
-        a = kaungimewe_new(17);
-    }
-    if (chosen(new_0_as_1) && own == 0) {
-        a.refusal = 0;
-    }
-    if (chosen(refused_new_own) && a.refusal != 0) {
-        a.desk.own = own;
-    }
-    return a;
-}
-
-/* Which refusal Mark answers in place of its own. */
-static unsigned mark_refusal(const kaungimewe_desk *desk, size_t lent, unsigned refusal)
-{
-    if (chosen(mark_9_before_5) && refusal == 5 && full(desk)) {
-        return 9;
-    }
-    if (lent >= KAUNGIMEWE_HEAD2) {
-        return refusal;
-    }
-    return (chosen(mark_13_before_5) && refusal == 5) || (chosen(mark_13_before_9) && refusal == 9) ? 13 : refusal;
-}
-
-/* What a refused Mark does that it should not. */
-static void refused_mark(kaungimewe_desk *desk, kaungimewe_box box, uint8_t *out, size_t lent,
-                         kaungimewe_mark_answer *a)
-{
-    if (chosen(refused_mark_byte) && lent > 0) {
-        out[lent - 1] = 0;
-    }
-    if (chosen(refused_mark_place) && desk->count < KAUNGIMEWE_PLACES) {
-        desk->boxes[4 * desk->count] = box.start;
-    }
-    if (chosen(refused_mark_number)) {
-        a->number = 1;
-    }
-}
-
-kaungimewe_mark_answer faulty_mark(kaungimewe_desk *desk, kaungimewe_box box, uint8_t *out, size_t lent)
-{
-    int accepted = box.start <= box.end && box.low < box.high && lent >= KAUNGIMEWE_LARGEST_FRAME;
-    if (chosen(mark_512_refused) && accepted && desk->count + desk->queue.count == KAUNGIMEWE_PLACES - 1) {
-        return (kaungimewe_mark_answer){.refusal = 9};
-    }
-    kaungimewe_mark_answer a = kaungimewe_mark(desk, box.start, box.end, box.low, box.high, out, lent);
-    if (a.refusal != 0) {
-        a.refusal = (uint8_t)mark_refusal(desk, lent, a.refusal);
-        refused_mark(desk, box, out, lent, &a);
-        return a;
-    }
-    if (chosen(mark_past_511) && two(out + 23) == 511) {
-        out[24]--;
-    }
-    if (chosen(mark_byte_behind) && a.size < lent) {
-        out[a.size] = 0;
-    }
-    return a;
-}
 
 /* What is asked of a frame that was read as far as its entries: whether one names a mark that is not executed. */
 static int entry_missing(const kaungimewe_desk *desk, const uint8_t *frame, size_t size)
@@ -188,6 +115,9 @@ static void touch(kaungimewe_desk *desk, const uint8_t *frame, kaungimewe_receiv
     if (chosen(refused_receive_missing) && a->refusal != 0) {
         a->missing = 1;
     }
+    if (chosen(refused_receive_frame) && a->refusal == 8) {
+        ((uint8_t *)frame)[21]++;
+    }
     for (size_t p = 0; chosen(known_takes_count) && known && frame[2] == 2 && p < queue->count; p++) {
         if (queue->desks[p] == frame[3] && queue->numbers[p] == two(frame + 4)) {
             queue->pasts[p] = two(frame + 23) + 1;
@@ -210,28 +140,119 @@ static void count(const kaungimewe_desk *desk, kaungimewe_receive_answer *a)
     }
 }
 
-/* The answer, the count of a frame that says 511 not judged. */
-static kaungimewe_receive_answer judged(kaungimewe_desk *desk, const uint8_t *frame, size_t size)
+/* The frame of the mark at a place of the waiting ones: its size. */
+static size_t waiting_frame(const kaungimewe_waiting *queue, size_t p, uint8_t *frame)
+{
+    uint8_t entries[3 * KAUNGIMEWE_DESKS], second[KAUNGIMEWE_LARGEST_FRAME];
+    const uint32_t *b = queue->boxes + 4 * p;
+    size_t size = 0;
+    for (uint8_t d = 1; d <= KAUNGIMEWE_DESKS; d++) {
+        uint16_t number = queue->stamps[KAUNGIMEWE_DESKS * p + d - 1];
+        if (number != 0) {
+            entries[size++] = d;
+            entries[size++] = (uint8_t)(number >> 8);
+            entries[size++] = (uint8_t)number;
+        }
+    }
+    uint16_t past = queue->pasts[p] == 0 ? 0 : queue->pasts[p] - 1;
+    size = kaungimewe_write2(queue->desks[p], queue->numbers[p], b[0], b[1], b[2], b[3], past, entries, size, frame,
+                             KAUNGIMEWE_LARGEST_FRAME)
+               .size;
+    memcpy(second, frame, size);
+    return queue->pasts[p] != 0 ? size : kaungimewe_to1(second, size, frame, KAUNGIMEWE_LARGEST_FRAME).size;
+}
+
+/* Releases the first waiting mark by arrival that is ready, and takes it from the queue: whether there was one. */
+static int release_first(kaungimewe_desk *desk, kaungimewe_waiting *queue, kaungimewe_receive_answer *a)
+{
+    uint8_t frame[KAUNGIMEWE_LARGEST_FRAME];
+    for (size_t p = 0; p < queue->count; p++) {
+        if (queue->desks[p] == 0) {
+            continue; /* it was taken */
+        }
+        kaungimewe_receive_answer r = kaungimewe_receive(desk, frame, waiting_frame(queue, p, frame));
+        desk->queue.count = 0;
+        if (r.kind != KAUNGIMEWE_WAITS) {
+            a->executed += r.executed;
+            a->dropped += r.refusal == 11;
+            queue->desks[p] = 0;
+            return 1;
+        }
+    }
+    return 0;
+}
+
+/* Receive, with the waiting marks released by arrival. */
+static kaungimewe_receive_answer by_arrival(kaungimewe_desk *desk, const uint8_t *frame, size_t size)
+{
+    kaungimewe_waiting queue = desk->queue;
+    uint8_t again[KAUNGIMEWE_LARGEST_FRAME];
+    desk->queue.count = 0;
+    kaungimewe_receive_answer a = kaungimewe_receive(desk, frame, size);
+    while (release_first(desk, &queue, &a)) {
+    }
+    for (size_t p = 0; p < queue.count; p++) {
+        if (queue.desks[p] != 0) {
+            kaungimewe_receive(desk, again, waiting_frame(&queue, p, again));
+        }
+    }
+    return a;
+}
+
+/* The answer to a false past count that is true modulo 256. */
+static kaungimewe_receive_answer with_count(kaungimewe_desk *desk, const uint8_t *frame, size_t size)
+{
+    uint8_t other[KAUNGIMEWE_LARGEST_FRAME];
+    kaungimewe_receive_answer a = kaungimewe_receive(desk, frame, size);
+    if (a.refusal != 11 || frame[2] != 2) {
+        return a;
+    }
+    memcpy(other, frame, size);
+    other[23] ^= 1;
+    return kaungimewe_receive(desk, other, size);
+}
+
+/* The answer where the fault is in what the desk does with the frame. */
+static kaungimewe_receive_answer done(kaungimewe_desk *desk, const uint8_t *frame, size_t size)
 {
     uint8_t first[KAUNGIMEWE_LARGEST_FRAME];
-    kaungimewe_read_answer r = kaungimewe_read(frame, size);
-    if (chosen(receive_past_511_unjudged) && r.past == 511) {
+    if (chosen(receive_past_511_unjudged) && kaungimewe_read(frame, size).past == 511) {
         return kaungimewe_receive(desk, first, kaungimewe_to1(frame, size, first, sizeof first).size);
     }
+    if (chosen(receive_count_8_bits)) {
+        return with_count(desk, frame, size);
+    }
+    kaungimewe_desk copy = *desk;
+    if (chosen(release_by_arrival) && kaungimewe_receive(&copy, frame, size).kind == KAUNGIMEWE_EXECUTED) {
+        return by_arrival(desk, frame, size);
+    }
     return kaungimewe_receive(desk, frame, size);
+}
+
+/* Where a place is left or a mark waits, and the frame is taken for something else. */
+static unsigned room_refusal(const kaungimewe_desk *desk, kaungimewe_receive_answer a)
+{
+    if (chosen(receive_512_refused) && desk->count + desk->queue.count == 511 && a.kind == KAUNGIMEWE_EXECUTED) {
+        return 9;
+    }
+    if (chosen(release_to_512_refused) && a.executed > 1 && desk->count + a.executed == KAUNGIMEWE_PLACES) {
+        return 9;
+    }
+    if (chosen(waiting_64_refused) && desk->queue.count == 63 && a.kind == KAUNGIMEWE_WAITS) {
+        return 10;
+    }
+    return chosen(receive_known_as_9) && full(desk) && a.kind == KAUNGIMEWE_KNOWN ? 9 : 0;
 }
 
 kaungimewe_receive_answer faulty_receive(kaungimewe_desk *desk, const uint8_t *frame, size_t size)
 {
     const kaungimewe_desk before = *desk;
-    size = chosen(receive_size_16_bits) ? size % 65536 : size;
-    kaungimewe_receive_answer a = judged(desk, frame, size);
-    if (chosen(release_to_512_refused) && a.executed > 1 && desk->count == KAUNGIMEWE_PLACES) {
+    size = modulo(receive_size_16_bits, size, 65536);
+    kaungimewe_receive_answer a = done(desk, frame, size);
+    unsigned refusal = room_refusal(&before, a);
+    if (refusal != 0) {
         *desk = before;
-        return (kaungimewe_receive_answer){.refusal = 9};
-    }
-    if (chosen(receive_known_as_9) && full(&before) && a.kind == KAUNGIMEWE_KNOWN) {
-        return (kaungimewe_receive_answer){.refusal = 9};
+        return (kaungimewe_receive_answer){.refusal = (uint8_t)refusal};
     }
     if (((chosen(receive_known_before_5) && a.refusal == 5) || (chosen(receive_high_unseen) && a.refusal == 8)) &&
         known_but(&before, frame, size)) {
