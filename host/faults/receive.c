@@ -1,6 +1,4 @@
 /* Planted faults of Receive. */
-#include <string.h>
-
 #include "true.h"
 
 /* What is asked of a frame that was read as far as its entries: whether one names a mark that is not executed. */
@@ -215,9 +213,18 @@ static kaungimewe_receive_answer with_count(kaungimewe_desk *desk, const uint8_t
 /* The answer where the fault is in what the desk does with the frame. */
 static kaungimewe_receive_answer done(kaungimewe_desk *desk, const uint8_t *frame, size_t size)
 {
-    uint8_t first[KAUNGIMEWE_LARGEST_FRAME];
+    uint8_t other[256];
+    size_t cut = cut_8_bits(receive_size_8_bits, frame, size, other);
+    if (cut > 0) {
+        return kaungimewe_receive(desk, other, cut);
+    }
     if (chosen(receive_past_511_unjudged) && kaungimewe_read(frame, size).past == 511) {
-        return kaungimewe_receive(desk, first, kaungimewe_to1(frame, size, first, sizeof first).size);
+        return kaungimewe_receive(desk, other, kaungimewe_to1(frame, size, other, sizeof other).size);
+    }
+    if (chosen(receive_number_9_bits) && size <= KAUNGIMEWE_LARGEST_FRAME && size > 5 && two(frame + 4) > 512) {
+        memcpy(other, frame, size);
+        other[4] &= 1;
+        return kaungimewe_receive(desk, other, size);
     }
     if (chosen(receive_count_8_bits)) {
         return with_count(desk, frame, size);

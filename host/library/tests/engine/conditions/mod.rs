@@ -45,6 +45,9 @@ impl<C: Clone + PartialEq + Debug> Table<C> {
     /// Each row alone, and beside each other. The call says which condition it answered, or none.
     fn check(&self, call: impl Fn(&C) -> Option<Told>) {
         assert_eq!(call(&self.base), None, "nothing holds in {:?}", self.base);
+        let is_way = |name: &&&str| self.rows.iter().any(|row| row.way == **name);
+        let named = self.never.iter().flat_map(|(x, y, _)| x.iter().chain(y.iter()));
+        assert_eq!(named.into_iter().find(|name| !is_way(name)), None, "no way has this name");
         for (at, row) in self.rows.iter().enumerate() {
             assert_eq!(call(&self.with(&[row])), Some(row.told), "{} alone", row.way);
             self.check_beside(row, &self.rows[at + 1..], &call);

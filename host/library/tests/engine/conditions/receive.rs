@@ -45,12 +45,13 @@ fn desk_rows() -> Vec<Row<Case>> {
     ]
 }
 
-const OUT_OF_RANGE: &[&str] = &["desk 0", "desk 17", "number 0", "number 513"];
+const OUT_OF_RANGE: &[&str] = &["desk 0", "desk 17", "number 0", "number 515"];
 const HELD: &[&str] =
     &["executed", "waiting", "executed with another box", "waiting with another box", "executed with another count"];
 const KNOWN: &[&str] = &["executed", "waiting"];
 const NOT_EXECUTED: &[&str] = &[
     "seventeen entries",
+    "255 entries",
     "an entry of desk 0",
     "an entry of desk 17",
     "an entry of number 0",
@@ -64,6 +65,7 @@ const NOT_EXECUTED: &[&str] = &[
 const FALSE: &[&str] = &["an entry precedes another", "without the previous mark", "a false count"];
 const ALTERED: &[&str] = &[
     "seventeen entries",
+    "255 entries",
     "start behind end",
     "low above high",
     "an entry of desk 0",
@@ -96,15 +98,15 @@ const NEVER: [Never; 16] = [
     (HELD, &["an own unmade mark"], "what is not made is not held"),
     (KNOWN, ALTERED, "then it has other fields, which no desk holds"),
     (FALSE, NOT_EXECUTED, "with an entry that is not executed it is not ready"),
-    (FALSE, &["desk 0", "desk 17", "number 513"], "its previous mark is not executed, so it is not ready"),
+    (FALSE, &["desk 0", "desk 17", "number 515"], "its previous mark is not executed, so it is not ready"),
     (&["without the previous mark"], &["number 0"], "it has no previous mark"),
     (&["without the previous mark"], &["falling desks"], "one entry does not fall"),
     (
         &["executed"],
-        &["not ready, 64 waiting", "past count 512", "a false count"],
+        &["not ready, 64 waiting", "past count 515", "a false count"],
         "what is executed is ready and true",
     ),
-    (&["executed with another count", "past count 512"], &["past count 512", "a false count"], "it has one count"),
+    (&["executed with another count", "past count 515"], &["past count 515", "a false count"], "it has one count"),
 ];
 
 #[test]
