@@ -180,20 +180,27 @@ static int release_first(kaungimewe_desk *desk, kaungimewe_waiting *queue, kaung
     return 0;
 }
 
+/* The marks that were not taken from the queue wait again. */
+static void wait_again(kaungimewe_desk *desk, const kaungimewe_waiting *queue)
+{
+    uint8_t frame[KAUNGIMEWE_LARGEST_FRAME];
+    for (size_t p = 0; p < queue->count; p++) {
+        if (queue->desks[p] != 0) {
+            kaungimewe_receive(desk, frame, waiting_frame(queue, p, frame));
+        }
+    }
+}
+
 /* Receive, with the waiting marks released by arrival. */
 static kaungimewe_receive_answer by_arrival(kaungimewe_desk *desk, const uint8_t *frame, size_t size)
 {
     kaungimewe_waiting queue = desk->queue;
-    uint8_t again[KAUNGIMEWE_LARGEST_FRAME];
     desk->queue.count = 0;
     kaungimewe_receive_answer a = kaungimewe_receive(desk, frame, size);
     while (release_first(desk, &queue, &a)) {
+        /* until none is ready */
     }
-    for (size_t p = 0; p < queue.count; p++) {
-        if (queue.desks[p] != 0) {
-            kaungimewe_receive(desk, again, waiting_frame(&queue, p, again));
-        }
-    }
+    wait_again(desk, &queue);
     return a;
 }
 
