@@ -135,15 +135,18 @@ fn frames_that_are_no_desks() {
     assert_eq!(fails(1, &full), ReplayError::Frame { index: PLACES, refusal: Refusal::DeskFull });
 }
 
-/// An own mark comes out otherwise where one that it follows is missing, one too many stands before it, its edition is
-/// not what Mark writes, or it is not of this desk's making at all.
+/// An own mark comes out otherwise where one that it follows is missing, one too many stands before it, also where the stamp
+/// has as many entries then, its past count is false, or its edition is not what Mark writes.
 #[test]
 fn own_marks_that_come_out_otherwise() {
     let [first, other, second] = <[Vec<u8>; 3]>::try_from(three_frames()).expect("three frames");
-    let follows = frame(3, 1, &[]);
+    let mut lie = second.clone();
+    lie[24] += 1;
     for frames in [
         vec![first.clone(), second.clone()],
-        vec![first.clone(), other.clone(), follows, second.clone()],
+        vec![first.clone(), other.clone(), frame(3, 1, &[]), second.clone()],
+        vec![first.clone(), other.clone(), frame(2, 2, &[(2, 1)]), second.clone()],
+        vec![first.clone(), other.clone(), lie],
         vec![other.clone(), first.clone(), second.clone()],
         vec![edition1(&first), other.clone(), second.clone()],
         vec![first.clone(), other.clone(), edition1(&second)],
