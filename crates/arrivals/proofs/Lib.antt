@@ -1,5 +1,4 @@
 -- The modules of the laws.
-pub mod Receiving
 pub mod Releasing
 pub mod Turning
 pub mod Arriving

@@ -1,23 +1,22 @@
 -- The ways that Mark and Receive can go, each with the conditions that led there. Assumes nothing.
-use Prim.Native.Nat.{_<_, ℕ}
+use Prim.Native.Nat.{ℕ}
 use borrow.Author.Tests.{not-false}
 use lib.Dec.{eqb}
 use lib.ListN.{length}
-use mathlib.Core.Bool.{Bool, _||_, false, true}
-use mathlib.Core.List.{List, _++_, _∷_}
+use mathlib.Core.Bool.{Bool, _||_, false, not, true}
+use mathlib.Core.List.{List, _++_}
 use mathlib.Core.Option.{Option, none, some}
-use mathlib.Core.Path.{_≡_, refl}
+use mathlib.Core.Path.{_≡_, refl, subst}
 use Rattle.frame.specs.declared.Fields.{Fields}
 use Rattle.frame.specs.declared.MarkBox.{MarkBox}
-use Rattle.frame.specs.Answer.{Answer, gives, refused}
+use Rattle.frame.specs.Answer.{Answer, gives, refuseIf, refused}
 use Rattle.frame.specs.Frame.{readFields}
 use Rattle.frame.specs.Mark.{boxRule}
 use Rattle.frame.proofs.Tests.{passes}
-use Rattle.causality.specs.Answers.{Executed, Known, Numbered, Reply, Waiting}
-use Rattle.causality.specs.Calls.{Received, arrive, executing, full, ifRead, markAnswer, markIn, newMark, numbered, receive, receiveMark, refuse, sameFields, sizeOfMark, unmade}
+use Rattle.causality.specs.Answers.{Executed, Judgement, Known, Numbered, Reply, Waiting, executes, knows, waits}
+use Rattle.causality.specs.Calls.{admit, andThen, full, judge, markAnswer, markIn, newMark, numbered, readMark, sameFields, sizeOfMark, unmade}
 use Rattle.causality.specs.Marks.{any, find, waitingPlaces}
-use Rattle.causality.specs.State.{Mark, State, falseStamp, markId, ready}
-use Rattle.causality.proofs.Missing.{short-some}
+use Rattle.causality.specs.State.{Mark, State, falseStamp, markId, missing, ready, reckoned}
 
 -- What Mark has passed where it answers.
 pub record MarkGives (N : ℕ) (st : State) (b : MarkBox) (lent : ℕ) (n : Numbered) : Type 0 where
@@ -45,48 +44,55 @@ executedBy (gives (Waiting n)) = 0
 executedBy (gives (Executed k f)) = k
 executedBy (refused c) = 0
 
--- The answers with which the desk stays as it is.
-pub data Still : Answer Reply → Type 0 where
-  known : Still (gives Known)
-  refusal : (c : ℕ) → Still (refused c)
+-- What led to each judgement.
+pub data JudgeCase (st : State) (m : Mark) : Answer (Judgement Mark) → Type 0 where
+  to-refuse : (c : ℕ) → JudgeCase st m (refused c)
+  to-know : JudgeCase st m (gives knows)
+  to-wait : Arrives st m → ready (st .executed) m ≡ false → eqb (length (st .waiting)) waitingPlaces ≡ false → JudgeCase st m (gives (waits m (missing (st .executed) m)))
+  to-execute : Arrives st m → ready (st .executed) m ≡ true → falseStamp (st .executed) m ≡ false → JudgeCase st m (gives (executes (reckoned (st .executed) m)))
 
-pub data ReceiveCase (st : State) (m : Mark) : Received → Type 0 where
-  stays : (a : Answer Reply) → Still a → ReceiveCase st m (record { state = st; answer = a })
-  waits : Arrives st m → ready (st .executed) m ≡ false → eqb (length (st .waiting)) waitingPlaces ≡ false → (short : ℕ) → 0 < short
-      → ReceiveCase st m (record { state = record { own = st .own; executed = st .executed; waiting = m ∷ st .waiting }; answer = gives (Waiting short) })
-  executes : Arrives st m → ready (st .executed) m ≡ true → falseStamp (st .executed) m ≡ false → ReceiveCase st m (executing st m)
-
-arrive-case : (st : State) (m : Mark) → (full st ≡ false → Arrives st m) → ReceiveCase st m (arrive st m)
-unfolding arrive refuse
-arrive-case st m here = go (full st) (ready (st .executed) m) (eqb (length (st .waiting)) waitingPlaces) (falseStamp (st .executed) m) refl refl refl refl
+admit-case : (st : State) (m : Mark) → (full st ≡ false → Arrives st m) → JudgeCase st m (admit st m)
+unfolding admit
+admit-case st m here = go (full st) (ready (st .executed) m) (eqb (length (st .waiting)) waitingPlaces) (falseStamp (st .executed) m) refl refl refl refl
   where
-    go : (a b c g : Bool) → full st ≡ a → ready (st .executed) m ≡ b → eqb (length (st .waiting)) waitingPlaces ≡ c → falseStamp (st .executed) m ≡ g → ReceiveCase st m (arrive st m)
-    go true b c g ea eb ec eg = rw (ea, arrive) (stays (refused 9) (refusal 9))
-    go false false true g ea eb ec eg = rw (ea, arrive) (rw eb (rw ec (stays (refused 10) (refusal 10))))
-    go false false false g ea eb ec eg = rw (ea, arrive) (rw eb (rw ec (waits (here ea) eb ec _ (short-some (st .executed) m eb))))
-    go false true c true ea eb ec eg = rw (ea, arrive) (rw eb (rw eg (stays (refused 11) (refusal 11))))
-    go false true c false ea eb ec eg = rw (ea, arrive) (rw eb (rw eg (executes (here ea) eb eg)))
+    go : (a b c g : Bool) → full st ≡ a → ready (st .executed) m ≡ b → eqb (length (st .waiting)) waitingPlaces ≡ c → falseStamp (st .executed) m ≡ g → JudgeCase st m (admit st m)
+    go true b c g ea eb ec eg = rw (ea, admit) (to-refuse 9)
+    go false false true g ea eb ec eg = rw (ea, admit) (rw (eb, ec) (to-refuse 10))
+    go false false false g ea eb ec eg = rw (ea, admit) (rw (eb, ec) (to-wait (here ea) eb ec))
+    go false true c true ea eb ec eg = rw (ea, admit) (rw (eb, eg) (to-refuse 11))
+    go false true c false ea eb ec eg = rw (ea, admit) (rw (eb, eg) (to-execute (here ea) eb eg))
 
-pub receive-case : (st : State) (m : Mark) → ReceiveCase st m (receiveMark st m)
-unfolding receiveMark refuse
-receive-case st m = go (unmade st (m .id) || any (unmade st) (m .stamp)) refl (find markId (m .id) (st .executed ++ st .waiting)) refl
+pub judge-case : (st : State) (m : Mark) → JudgeCase st m (judge st m)
+unfolding judge
+judge-case st m = go (unmade st (m .id) || any (unmade st) (m .stamp)) refl (find markId (m .id) (st .executed ++ st .waiting)) refl
   where
-    knows : (h : Mark) (b : Bool) → sameFields h m ≡ b
-        → ReceiveCase st m (elim (sameFields h m) [ true ↦ record { state = st; answer = gives Known } | false ↦ refuse st 8 ])
-    knows h true e = rw e (stays (gives Known) known)
-    knows h false e = rw e (stays (refused 8) (refusal 8))
+    held : (b : Bool) → JudgeCase st m (refuseIf (not b) 8 (gives knows))
+    held true = to-know
+    held false = to-refuse 8
 
-    go : (b : Bool) → (unmade st (m .id) || any (unmade st) (m .stamp)) ≡ b → (o : Option Mark) → find markId (m .id) (st .executed ++ st .waiting) ≡ o
-        → ReceiveCase st m (receiveMark st m)
-    go true e o q = rw (e, receiveMark) (stays (refused 7) (refusal 7))
-    go false e none q = rw (e, receiveMark) (rw q (arrive-case st m (λ r. record { made = e; absent = q; room = r })))
-    go false e (some h) q = rw (e, receiveMark) (rw q (knows h (sameFields h m) refl))
+    go : (b : Bool) → (unmade st (m .id) || any (unmade st) (m .stamp)) ≡ b → (o : Option Mark) → find markId (m .id) (st .executed ++ st .waiting) ≡ o → JudgeCase st m (judge st m)
+    go true e o q = rw (e, judge) (to-refuse 7)
+    go false e none q = rw (e, judge) (rw q (admit-case st m (λ r. record { made = e; absent = q; room = r })))
+    go false e (some h) q = rw (e, judge) (rw q (held (sameFields h m)))
 
--- The same of bytes: those that the reader refuses leave the desk as it is.
-pub received-case : (N : ℕ) (st : State) (s : List ℕ) → ReceiveCase st (markIn N s) (receive N st s)
-unfolding receive refuse
+pub judged-waits : (st : State) (m x : Mark) (n : ℕ) → judge st m ≡ gives (waits x n) → Arrives st m × (eqb (length (st .waiting)) waitingPlaces ≡ false)
+judged-waits st m x n e = go x n (subst (JudgeCase st m) e (judge-case st m))
+  where
+    go : (x : Mark) (n : ℕ) → JudgeCase st m (gives (waits x n)) → Arrives st m × (eqb (length (st .waiting)) waitingPlaces ≡ false)
+    go x n (to-wait a b c) = (a, c)
+
+pub judged-executes : (st : State) (m x : Mark) → judge st m ≡ gives (executes x)
+    → Arrives st m × (ready (st .executed) m ≡ true) × (falseStamp (st .executed) m ≡ false) × (x ≡ reckoned (st .executed) m)
+judged-executes st m x e = go x (subst (JudgeCase st m) e (judge-case st m))
+  where
+    go : (x : Mark) → JudgeCase st m (gives (executes x)) → Arrives st m × (ready (st .executed) m ≡ true) × (falseStamp (st .executed) m ≡ false) × (x ≡ reckoned (st .executed) m)
+    go x (to-execute a b c) = (a, b, c, refl)
+
+-- The same of bytes: those that the reader refuses are refused.
+pub received-case : (N : ℕ) (st : State) (s : List ℕ) → JudgeCase st (markIn N s) (andThen (readMark N s) (judge st))
+unfolding readMark
 received-case N st s = go (readFields N s)
   where
-    go : (a : Answer Fields) → ReceiveCase st (markIn N s) (ifRead a st (receiveMark st (markIn N s)))
-    go (gives f) = receive-case st (markIn N s)
-    go (refused c) = stays (refused c) (refusal c)
+    go : (a : Answer Fields) → JudgeCase st (markIn N s) (andThen (andThen a (λ f. gives (markIn N s))) (judge st))
+    go (gives f) = judge-case st (markIn N s)
+    go (refused c) = to-refuse c

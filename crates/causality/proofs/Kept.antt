@@ -15,11 +15,11 @@ use Rattle.frame.specs.declared.Past.the-variants.{Said, Unsaid}
 use Rattle.frame.specs.Answer.{Answer, gives, refused}
 use Rattle.frame.specs.Frame.{pastBad, readFields}
 use Rattle.frame.specs.Mark.{MarkId, boxRule, isDesk, numbers, pasts}
-use Rattle.causality.specs.Answers.{Numbered}
-use Rattle.causality.specs.Calls.{Created, FromCalls, Received, begun, earlier, empty, execute, executing, full, ifRead, mark, markAnswer, markIn, marked, new, newMark, receive, receiveMark, received, refuse, release, stateIf}
+use Rattle.causality.specs.Answers.{Judgement, Numbered}
+use Rattle.causality.specs.Calls.{Created, FromCalls, act, andThen, begun, earlier, empty, execute, executing, full, judge, mark, markAnswer, markIn, marked, new, newMark, readMark, receive, receiveMark, received, release, stateIf}
 use Rattle.causality.specs.Marks.{All, has, lowest, places, tally, without}
 use Rattle.causality.specs.State.{Mark, State, falseStamp, heads, ids, markId, ready, reckoned, reckoning, withPast}
-use Rattle.causality.proofs.Cases.{ReceiveCase, executes, mark-gives, receive-case, stays, waits}
+use Rattle.causality.proofs.Cases.{JudgeCase, judge-case, mark-gives, to-execute, to-know, to-refuse, to-wait}
 use Rattle.causality.proofs.Fit.{Fit, Range, desk-facts, frame-fit, strict-count}
 use Rattle.causality.proofs.Lists.{Picked, all-ids, all-map, lowest-picked, tally-length, without-all}
 use Rattle.causality.proofs.Numbers.{Strict, heads-strict}
@@ -133,13 +133,14 @@ module _ (N : ℕ) (some-desk : 1 ≤ N) where
 
   pub receive-mark-kept : (st : State) (m : Mark) → Fit N m → Kept st → Kept ((receiveMark st m) .state)
   unfolding executing
-  receive-mark-kept st m f k = go (receive-case st m)
+  receive-mark-kept st m f k = go (judge-case st m)
       (receive-reach st m (f .range .first) (λ e t. f .entries e t .first) (k .reach)) (receive-still st m (k .still))
     where
-      go : {x : Received} → ReceiveCase st m x → ReachState (x .state) → StillState (x .state) → Kept (x .state)
-      go (stays a z) r q = k
-      go (waits a b c n p) r q = record { low = k .low; high = k .high; reach = r; still = q; executed = k .executed; waiting = (f, k .waiting) }
-      go (executes a b c) r q =
+      go : {j : Answer (Judgement Mark)} → JudgeCase st m j → ReachState ((act st j) .state) → StillState ((act st j) .state) → Kept ((act st j) .state)
+      go (to-refuse c) r q = k
+      go to-know r q = k
+      go (to-wait a b c) r q = record { low = k .low; high = k .high; reach = r; still = q; executed = k .executed; waiting = (f, k .waiting) }
+      go (to-execute a b c) r q =
           let x = release-all Bare (Fit N) (λ l w g. fit-with w Unsaid g refl) (length (st .waiting)) (reckoned (st .executed) m ∷ st .executed) (st .waiting) 1 0
           (fit-with m Unsaid f refl, all-map (λ v g. fit-with v Unsaid g refl) (st .executed) (k .executed)) (k .waiting) in
           let l = release (length (st .waiting)) (reckoned (st .executed) m ∷ st .executed) (st .waiting) 1 0 .executed in
@@ -147,10 +148,10 @@ module _ (N : ℕ) (some-desk : 1 ≤ N) where
           record { low = k .low; high = k .high; reach = r; still = q; executed = reckoned-fit l (r .sound) (omega arith) (x .0); waiting = x .1 }
 
   pub receive-kept : (st : State) (s : List ℕ) → Kept st → Kept ((receive N st s) .state)
-  unfolding receive refuse
+  unfolding receive readMark
   receive-kept st s k = go (readFields N s) refl
     where
-      go : (a : Answer Fields) → readFields N s ≡ a → Kept ((ifRead a st (receiveMark st (markIn N s))) .state)
+      go : (a : Answer Fields) → readFields N s ≡ a → Kept ((act st (andThen (andThen a (λ f. gives (markIn N s))) (judge st))) .state)
       go (gives f) e = receive-mark-kept st (markIn N s) (frame-fit N s f e) k
       go (refused c) e = k
 

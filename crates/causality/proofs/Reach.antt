@@ -13,11 +13,11 @@ use Rattle.frame.specs.declared.Past.the-variants.{Said}
 use Rattle.frame.specs.Answer.{Answer, gives, refused}
 use Rattle.frame.specs.Mark.{MarkId}
 use Rattle.frame.proofs.Tests.{or-false}
-use Rattle.causality.specs.Answers.{Numbered}
-use Rattle.causality.specs.Calls.{Received, execute, executing, mark, markAnswer, newMark, receiveMark, release, stateIf, unmade}
+use Rattle.causality.specs.Answers.{Judgement, Numbered}
+use Rattle.causality.specs.Calls.{act, execute, executing, mark, markAnswer, newMark, receiveMark, release, stateIf, unmade}
 use Rattle.causality.specs.Marks.{All, all, any, has, keep, lowest, same, tally, without}
 use Rattle.causality.specs.State.{Mark, State, falseEntries, falseStamp, heads, ids, markId, precedes, previous, ready, reckoned, reckoning, sameCount}
-use Rattle.causality.proofs.Cases.{Arrives, ReceiveCase, executes, receive-case, stays, waits}
+use Rattle.causality.proofs.Cases.{Arrives, JudgeCase, judge-case, to-execute, to-know, to-refuse, to-wait}
 use Rattle.causality.proofs.Lists.{Picked, absent-all, all-at, all-map, any-cong, any-find, any-of, find-has, has-append, has-keep, has-self, ids-append, ids-length, keep-has, lowest-picked, nor-fst, nor-snd, without-all}
 use Rattle.causality.proofs.Logic.{T→eq, and-fst, and-intro, bool-ext, nT→eq, or-cases, or-inl, or-inr, same-refl, same→eq, split}
 use Rattle.causality.proofs.Numbers.{ready-next}
@@ -334,7 +334,7 @@ execute-reach d m p r a b c =
 pub receive-reach : (d : State) (m : Mark) → 1 ≤ m .id .number → ((e : MarkId) → T (has e (m .stamp)) → 1 ≤ e .number) → ReachState d
     → ReachState ((receiveMark d m) .state)
 unfolding executing unmade
-receive-reach d m p pe r = go (receive-case d m)
+receive-reach d m p pe r = go (judge-case d m)
   where
     here : T (not (has (m .id) (ids (d .executed)) || has (m .id) (ids (d .waiting)))) → T (not (has (m .id) (ids (d .executed))))
     here n = nor-fst (has (m .id) (ids (d .executed))) (has (m .id) (ids (d .waiting))) n
@@ -353,7 +353,8 @@ receive-reach d m p pe r = go (receive-case d m)
       asks = λ e te q. made e (pe e te) (not-T (unmade d e) (λ u. T-not (any (unmade d) (m .stamp)) (nor-snd (unmade d (m .id)) (any (unmade d) (m .stamp)) (rw (a .made) tt)) (any-of (unmade d) (m .stamp) e te u))) q;
     }
 
-    go : {r : Received} → ReceiveCase d m r → ReachState (r .state)
-    go (stays a z) = r
-    go (waits a b c n p) = record { sound = r .sound; wait = (wait a, r .wait) }
-    go (executes a b c) = release-reach (d .own) (length (d .waiting)) (reckoned (d .executed) m ∷ d .executed) (d .waiting) 1 0 (execute-reach d m p r a b c)
+    go : {j : Answer (Judgement Mark)} → JudgeCase d m j → ReachState ((act d j) .state)
+    go (to-refuse c) = r
+    go to-know = r
+    go (to-wait a b c) = record { sound = r .sound; wait = (wait a, r .wait) }
+    go (to-execute a b c) = release-reach (d .own) (length (d .waiting)) (reckoned (d .executed) m ∷ d .executed) (d .waiting) 1 0 (execute-reach d m p r a b c)

@@ -7,23 +7,25 @@ use native.Mathlib.Omega.{arith}
 use Rattle.frame.specs.declared.MarkBox.{MarkBox}
 use Rattle.frame.specs.Answer.{Answer, gives, refused}
 use Rattle.frame.specs.Frame.{overIf}
-use Rattle.causality.specs.Answers.{Numbered}
-use Rattle.causality.specs.Calls.{Received, execute, executing, frameOfMark, mark, markAnswer, markIn, newMark, receive, stateIf}
+use Rattle.causality.specs.Answers.{Judgement, Numbered}
+use Rattle.causality.specs.Calls.{act, execute, executing, frameOfMark, mark, markAnswer, markIn, newMark, receive, stateIf}
 use Rattle.causality.specs.State.{Mark, State}
-use Rattle.causality.proofs.Cases.{ReceiveCase, executes, received-case, stays, waits}
+use Rattle.causality.proofs.Cases.{JudgeCase, received-case, to-execute, to-know, to-refuse, to-wait}
 
 -- No answer is a refusal.
 gives-refused : {A : Type 0} (a : A) (c : ℕ) → gives a ≡ refused c → ⊥
 gives-refused a c e = let z : _≡_ {A = ℕ} 0 1 = cc in omega arith
 
-case-refused : (st : State) (m : Mark) (r : Received) (c : ℕ) → ReceiveCase st m r → r .answer ≡ refused c → r .state ≡ st
+case-refused : (st : State) (m : Mark) (j : Answer (Judgement Mark)) (c : ℕ) → JudgeCase st m j → (act st j) .answer ≡ refused c → (act st j) .state ≡ st
 unfolding executing
-case-refused st m r c (stays a z) e = refl
-case-refused st m r c (waits w b f n p) e = absurd (gives-refused _ c e)
-case-refused st m r c (executes w b f) e = absurd (gives-refused _ c e)
+case-refused st m j c (to-refuse n) e = refl
+case-refused st m j c to-know e = refl
+case-refused st m j c (to-wait w b f) e = absurd (gives-refused _ c e)
+case-refused st m j c (to-execute w b f) e = absurd (gives-refused _ c e)
 
 pub receive-refused : (N : ℕ) (st : State) (s : List ℕ) (c : ℕ) → receive N st s .answer ≡ refused c → receive N st s .state ≡ st
-receive-refused N st s c = case-refused st (markIn N s) (receive N st s) c (received-case N st s)
+unfolding receive
+receive-refused N st s c = case-refused st (markIn N s) _ c (received-case N st s)
 
 pub mark-refused : (N : ℕ) (st : State) (b : MarkBox) (out : List ℕ) (c : ℕ) → mark N st b out .answer ≡ refused c → (mark N st b out .state ≡ st) × (mark N st b out .bytes ≡ out)
 unfolding mark

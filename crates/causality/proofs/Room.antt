@@ -11,11 +11,11 @@ use native.Mathlib.Omega.{arith}
 use Rattle.frame.specs.declared.MarkBox.{MarkBox}
 use Rattle.frame.specs.Answer.{Answer, gives, refused}
 use Rattle.frame.specs.Mark.{MarkId}
-use Rattle.causality.specs.Answers.{Numbered}
-use Rattle.causality.specs.Calls.{Received, Release, execute, executing, full, mark, markAnswer, newMark, receiveMark, release, stateIf}
+use Rattle.causality.specs.Answers.{Judgement, Numbered}
+use Rattle.causality.specs.Calls.{Release, act, execute, executing, full, mark, markAnswer, newMark, receiveMark, release, stateIf}
 use Rattle.causality.specs.Marks.{All, all, has, lower, lowest, places, same, waitingPlaces, without}
 use Rattle.causality.specs.State.{Mark, State, falseStamp, ids, markId, previous, ready, reckoned}
-use Rattle.causality.proofs.Cases.{ReceiveCase, executes, mark-gives, receive-case, stays, waits}
+use Rattle.causality.proofs.Cases.{JudgeCase, judge-case, mark-gives, to-execute, to-know, to-refuse, to-wait}
 use Rattle.causality.proofs.Lists.{InList, all-at, all-intro, lowest-in, without-lt}
 use Rattle.causality.proofs.Logic.{and-fst, and-intro, and-snd, or-cases, or-inl, or-inr, same→eq}
 use Rattle.causality.proofs.Past.{prefix-le}
@@ -71,19 +71,20 @@ StillState d = Still (d .executed) (d .waiting)
 
 pub receive-still : (d : State) (m : Mark) → StillState d → StillState ((receiveMark d m) .state)
 unfolding executing full
-receive-still d m r = go (receive-case d m)
+receive-still d m r = go (judge-case d m)
   where
     neq : (x n : ℕ) → eqb x n ≡ false → x ≡ n → ⊥
     neq x n e q = T-not (eqb x n) (rw e tt) (subst (λ (k : ℕ). T (eqb x k)) q (eqb-refl x))
 
-    go : {x : Received} → ReceiveCase d m x → StillState (x .state)
-    go (stays a z) = r
-    go (waits a b c n p) =
+    go : {j : Answer (Judgement Mark)} → JudgeCase d m j → StillState ((act d j) .state)
+    go (to-refuse c) = r
+    go to-know = r
+    go (to-wait a b c) =
         let n1 : ¬ (length (d .executed) + length (d .waiting) ≡ places) = neq (length (d .executed) + length (d .waiting)) places (a .room) in
         let n2 : ¬ (length (d .waiting) ≡ waitingPlaces) = neq (length (d .waiting)) waitingPlaces c in
         let p = r .room .total in let q = r .room .few in
         record { room = record { total = omega arith; few = omega arith }; quiet = (rw b tt, r .quiet) }
-    go (executes a b c) =
+    go (to-execute a b c) =
         let n1 : ¬ (length (d .executed) + length (d .waiting) ≡ places) = neq (length (d .executed) + length (d .waiting)) places (a .room) in
         let x = release-rest (length (d .waiting)) (reckoned (d .executed) m ∷ d .executed) (d .waiting) 1 0 (omega arith) in
         let t = x .total in let f = x .fewer in

@@ -9,12 +9,12 @@ use mathlib.Core.Path.{_∙_, _≡_, refl}
 use Rattle.frame.specs.declared.MarkBox.{MarkBox}
 use Rattle.frame.specs.Answer.{Answer, gives, refused}
 use Rattle.frame.specs.Mark.{MarkId}
-use Rattle.causality.specs.Answers.{Numbered}
-use Rattle.causality.specs.Calls.{FromCalls, Later, Received, begun, execute, executing, mark, markAnswer, markIn, marked, newMark, receive, received, release, stateIf}
+use Rattle.causality.specs.Answers.{Judgement, Numbered}
+use Rattle.causality.specs.Calls.{FromCalls, Later, act, begun, execute, executing, mark, markAnswer, markIn, marked, newMark, receive, received, release, stateIf}
 use Rattle.causality.specs.Marks.{any, has, lowest, same, without}
 use Rattle.causality.specs.Silent.{Leaves, SilentLeaves, SilentLeavesLater, names}
 use Rattle.causality.specs.State.{Mark, State, falseStamp, heads, ids, isHead, markId, precedes, ready, reckoned}
-use Rattle.causality.proofs.Cases.{ReceiveCase, executes, received-case, stays, waits}
+use Rattle.causality.proofs.Cases.{JudgeCase, received-case, to-execute, to-know, to-refuse, to-wait}
 use Rattle.causality.proofs.Kept.{kept}
 use Rattle.causality.proofs.Lists.{any-find, any-of}
 use Rattle.causality.proofs.Logic.{or-inr}
@@ -60,11 +60,12 @@ release-newer (suc turns) l ws k f = go (lowest markId (ready l) ws) refl (relea
         by true x = rw (e, release) (rw x (ih l (without markId (w .id) ws) k (suc f)))
         by false x = rw (e, release) (rw x (newer-all (one-newer (reckoned l w) none-newer) (ih (reckoned l w ∷ l) (without markId (w .id) ws) (suc k) f)))
 
-receive-newer : (st : State) (m : Mark) (r : Received) → ReceiveCase st m r → Newer (st .executed) (r .state .executed)
+receive-newer : (st : State) (m : Mark) (j : Answer (Judgement Mark)) → JudgeCase st m j → Newer (st .executed) ((act st j) .state .executed)
 unfolding executing
-receive-newer st m r (stays a z) = none-newer
-receive-newer st m r (waits a b c n p) = none-newer
-receive-newer st m r (executes a b c) = newer-all (one-newer (reckoned (st .executed) m) none-newer) (release-newer (length (st .waiting)) (reckoned (st .executed) m ∷ st .executed) (st .waiting) 1 0)
+receive-newer st m j (to-refuse c) = none-newer
+receive-newer st m j to-know = none-newer
+receive-newer st m j (to-wait a b c) = none-newer
+receive-newer st m j (to-execute a b c) = newer-all (one-newer (reckoned (st .executed) m) none-newer) (release-newer (length (st .waiting)) (reckoned (st .executed) m ∷ st .executed) (st .waiting) 1 0)
 
 mark-newer : (N : ℕ) (st : State) (b : MarkBox) (out : List ℕ) → Newer (st .executed) ((mark N st b out) .state .executed)
 unfolding mark
@@ -75,9 +76,10 @@ mark-newer N st b out = go (markAnswer N st b (length out))
     go (refused c) = none-newer
 
 later-newer : (N : ℕ) {st later : State} → Later N st later → Newer (st .executed) (later .executed)
+unfolding receive
 later-newer N (begun u) = none-newer
 later-newer N (marked {st = x} p b out) = newer-all (later-newer N p) (mark-newer N x b out)
-later-newer N (received {st = x} p s) = newer-all (later-newer N p) (receive-newer x (markIn N s) (receive N x s) (received-case N x s))
+later-newer N (received {st = x} p s) = newer-all (later-newer N p) (receive-newer x (markIn N s) _ (received-case N x s))
 
 -- Marks stay, and so do their pasts.
 newer-has : {l k : List Mark} → Newer l k → (a : MarkId) → T (has a (ids l)) → T (has a (ids k))

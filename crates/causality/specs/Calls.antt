@@ -12,7 +12,7 @@ use Rattle.frame.specs.declared.Fields.{Fields}
 use Rattle.frame.specs.declared.MarkBox.{MarkBox}
 use Rattle.frame.specs.declared.Past.{Past}
 use Rattle.frame.specs.declared.Past.the-variants.{Unsaid, Said}
-use Rattle.causality.specs.Answers.{Numbered, Reply, Known, Waiting, Executed, Relation, Same, Before, After, Concurrent}
+use Rattle.causality.specs.Answers.{Numbered, Judgement, knows, waits, executes, Reply, Known, Waiting, Executed, Relation, Same, Before, After, Concurrent}
 use Rattle.causality.specs.Marks.{places, waitingPlaces, same, any, keep, has, tally, find, without, lowest}
 use Rattle.causality.specs.State.{Mark, markId, State, ids, precedes, reckoned, concurrent, heads, ready, missing, sameCount, falseStamp, withPast}
 
@@ -102,8 +102,40 @@ pub record Received : Type 0 where
   pub state : State
   pub answer : Answer Reply
 
-unfoldable pub refuse : State → ℕ → Received
-refuse st c = record { state = st; answer = refused c }
+-- 7: "of this desk and not yet made".
+unfoldable pub unmade : State → MarkId → Bool
+unmade st i = eqb (i .desk) (st .own) && ltb (tally (st .own) (ids (st .executed))) (i .number)
+
+abbrev pub sameBox : MarkBox → MarkBox → Bool
+sameBox a b = eqb (a .start) (b .start) && (eqb (a .end) (b .end) && (eqb (a .low) (b .low) && eqb (a .high) (b .high)))
+
+abbrev pub sameEntries : List MarkId → List MarkId → Bool
+sameEntries [] [] = true
+sameEntries [] (f ∷ fs) = false
+sameEntries (e ∷ es) [] = false
+sameEntries (e ∷ es) (f ∷ fs) = same e f && sameEntries es fs
+
+-- Of a mark held and a frame's of the same name: "Frames of one mark are the same if their fields agree, past count included where both have it".
+unfoldable pub sameFields : Mark → Mark → Bool
+sameFields h m = sameBox (h .extent) (m .extent) && (sameEntries (h .stamp) (m .stamp) && sameCount (h .past) (m .past))
+
+-- A mark that is neither executed nor waiting here: 9; "not ready, 64 waiting": 10; "ready, false stamp": 11.
+unfoldable pub admit : State → Mark → Answer (Judgement Mark)
+admit st m =
+    refuseIf (full st) 9
+    (elim (ready (st .executed) m) [
+      | false ↦ refuseIf (eqb (length (st .waiting)) waitingPlaces) 10 (gives (waits m (missing (st .executed) m)))
+      | true ↦ refuseIf (falseStamp (st .executed) m) 11 (gives (executes (reckoned (st .executed) m)))
+    ])
+
+-- What Receive finds of a mark: 7; "Known (executed or waiting here with the same ..)", beside 8: "same mark executed or waiting with other .."; else the above.
+unfoldable pub judge : State → Mark → Answer (Judgement Mark)
+judge st m =
+    refuseIf (unmade st (m .id) || any (unmade st) (m .stamp)) 7
+    (elim (find markId (m .id) (st .executed ++ st .waiting)) [
+      | some h ↦ refuseIf (not (sameFields h m)) 8 (gives knows)
+      | none ↦ admit st m
+    ])
 
 -- What the release has come to: k executed and f dropped.
 pub record Release : Type 0 where
@@ -128,60 +160,30 @@ release (suc turns) executed waiting k f =
 -- "k counts all executed by the call, f the dropped".
 unfoldable pub executing : State → Mark → Received
 executing st m =
-    let r = release (length (st .waiting)) (reckoned (st .executed) m ∷ st .executed) (st .waiting) 1 0 in
+    let r = release (length (st .waiting)) (m ∷ st .executed) (st .waiting) 1 0 in
     record { state = record { own = st .own; executed = r .executed; waiting = r .waiting }; answer = gives (Executed (r .k) (r .f)) }
 
--- A mark that is neither executed nor waiting here: 9; "not ready, 64 waiting": 10; "ready, false stamp": 11. Order 1: "Waiting carries that number".
-unfoldable pub arrive : State → Mark → Received
-arrive st m =
-    elim (full st) [
-      | true ↦ refuse st 9
-      | false ↦ elim (ready (st .executed) m) [
-        | false ↦ elim (eqb (length (st .waiting)) waitingPlaces) [
-          | true ↦ refuse st 10
-          | false ↦ record {
-            state = record { own = st .own; executed = st .executed; waiting = m ∷ st .waiting };
-            answer = gives (Waiting (missing (st .executed) m));
-          }
-        ]
-        | true ↦ elim (falseStamp (st .executed) m) [ true ↦ refuse st 11 | false ↦ executing st m ]
-      ]
-    ]
+-- What comes of it. Known "leaves the desk as it was", and so does a refusal. Order 1: "Waiting carries that number".
+abbrev pub act : State → Answer (Judgement Mark) → Received
+act st (refused c) = record { state = st; answer = refused c }
+act st (gives knows) = record { state = st; answer = gives Known }
+act st (gives (waits m short)) = record { state = record { own = st .own; executed = st .executed; waiting = m ∷ st .waiting }; answer = gives (Waiting short) }
+act st (gives (executes m)) = executing st m
 
--- 7: "of this desk and not yet made".
-unfoldable pub unmade : State → MarkId → Bool
-unmade st i = eqb (i .desk) (st .own) && ltb (tally (st .own) (ids (st .executed))) (i .number)
+abbrev pub receiveMark : State → Mark → Received
+receiveMark st m = act st (judge st m)
 
-abbrev pub sameBox : MarkBox → MarkBox → Bool
-sameBox a b = eqb (a .start) (b .start) && (eqb (a .end) (b .end) && (eqb (a .low) (b .low) && eqb (a .high) (b .high)))
+-- What is answered of what was read; a refusal stays.
+abbrev pub andThen : {A B : Type 0} → Answer A → (A → Answer B) → Answer B
+andThen (gives a) f = f a
+andThen (refused c) f = refused c
 
-abbrev pub sameEntries : List MarkId → List MarkId → Bool
-sameEntries [] [] = true
-sameEntries [] (f ∷ fs) = false
-sameEntries (e ∷ es) [] = false
-sameEntries (e ∷ es) (f ∷ fs) = same e f && sameEntries es fs
-
--- Of a mark held and a frame's of the same name: "Frames of one mark are the same if their fields agree, past count included where both have it".
-unfoldable pub sameFields : Mark → Mark → Bool
-sameFields h m = sameBox (h .extent) (m .extent) && (sameEntries (h .stamp) (m .stamp) && sameCount (h .past) (m .past))
-
--- "Known (executed or waiting here with the same ..)", which "leaves the desk as it was"; 8: "same mark executed or waiting with other ..".
-unfoldable pub receiveMark : State → Mark → Received
-receiveMark st m =
-    elim (unmade st (m .id) || any (unmade st) (m .stamp)) [
-      | true ↦ refuse st 7
-      | false ↦ elim (find markId (m .id) (st .executed ++ st .waiting)) [
-        | none ↦ arrive st m
-        | some h ↦ elim (sameFields h m) [ true ↦ record { state = st; answer = gives Known } | false ↦ refuse st 8 ]
-      ]
-    ]
-
-abbrev pub ifRead : Answer Fields → State → Received → Received
-ifRead (gives f) st r = r
-ifRead (refused c) st r = refuse st c
+-- The mark that a frame spells, where the reader accepts it: 2 to 6.
+unfoldable pub readMark : ℕ → List ℕ → Answer Mark
+readMark N s = andThen (readFields N s) (λ f. gives (markIn N s))
 
 unfoldable pub receive : ℕ → State → List ℕ → Received
-receive N st s = ifRead (readFields N s) st (receiveMark st (markIn N s))
+receive N st s = act st (andThen (readMark N s) (judge st))
 
 -- QUERIES: the state stays as it is
 
@@ -245,11 +247,6 @@ frameAgainBytes N st a out =
 abbrev pub isSaid : Past → Bool
 isSaid Unsaid = false
 isSaid (Said n) = true
-
--- What is answered of the fields read; a refusal stays.
-abbrev pub andThen : {A B : Type 0} → Answer A → (A → Answer B) → Answer B
-andThen (gives a) f = f a
-andThen (refused c) f = refused c
 
 -- From 1 to 2: "14, frame already of the wanted edition, after 6; then come 12 and 8 .., then 13". It is the frame that Frame again writes.
 unfoldable pub toSecondMark : ℕ → State → Mark → ℕ → Answer ℕ

@@ -10,11 +10,11 @@ use mathlib.Core.Path.{_∙_, _≡_, ap, refl, subst, sym}
 use native.Mathlib.Omega.{arith}
 use Rattle.frame.specs.declared.MarkBox.{MarkBox}
 use Rattle.frame.specs.declared.Past.the-variants.{Said}
-use Rattle.frame.specs.Answer.{Answer, gives, refused}
+use Rattle.frame.specs.Answer.{Answer, gives, refuseIf, refused}
 use Rattle.frame.specs.Frame.{overIf}
 use Rattle.frame.specs.Mark.{MarkId, boxRule}
-use Rattle.causality.specs.Answers.{Executed, Known, Numbered, Reception, Reply}
-use Rattle.causality.specs.Calls.{Received, Release, arrive, execute, executing, frameOfMark, full, mark, markAnswer, newMark, receiveMark, refuse, release, sameFields, stateIf, unmade}
+use Rattle.causality.specs.Answers.{Executed, Known, Numbered, Reception, Reply, knows}
+use Rattle.causality.specs.Calls.{Received, Release, act, admit, execute, executing, frameOfMark, full, judge, mark, markAnswer, newMark, receiveMark, release, sameFields, stateIf, unmade}
 use Rattle.causality.specs.Marks.{All, all, any, find, has, insert, keep, lower, lowest, rising, same, tally, waitingPlaces, without}
 use Rattle.causality.specs.State.{Mark, State, falseStamp, heads, ids, isHead, markId, precedes, ready, reckoned, sameCount, withPast}
 use Rattle.causality.proofs.Fit.{Fit, fit-size, markSize}
@@ -198,11 +198,11 @@ module _ (past : MarkId → List MarkId) where
     known-has d m = ap (λ (l : List MadeMark). has (m .id) (madeIds l)) (sym (map-append (d .executed) (d .waiting))) ∙ ap (has (m .id)) (made-ids (d .executed ++ d .waiting)) ∙ find-has (m .id) (d .executed ++ d .waiting)
 
     -- A mark that is neither executed nor waiting.
-    arrive-ok : Closed → (d : State) (m : Mark) → Consistent (d .executed) (d .waiting) → Good past m → K m → T (not (has (m .id) (ids (d .executed ++ d .waiting))))
+    admit-ok : Closed → (d : State) (m : Mark) → Consistent (d .executed) (d .waiting) → Good past m → K m → T (not (has (m .id) (ids (d .executed ++ d .waiting))))
         → has ((madeOf m) .id) (madeIds ((listsOf d) .listed ++ (listsOf d) .waiting)) ≡ false
-        → Matches d (handOver (listsOf d) (madeOf m)) (arrive d m)
-    unfolding handOver arrive executing leaveOut refuse madeOf
-    arrive-ok c d m o g km n unknown = go (full d) (ready (d .executed) m) (eqb (length (d .waiting)) waitingPlaces) refl refl refl
+        → Matches d (handOver (listsOf d) (madeOf m)) (act d (admit d m))
+    unfolding handOver admit executing leaveOut madeOf
+    admit-ok c d m o g km n unknown = go (full d) (ready (d .executed) m) (eqb (length (d .waiting)) waitingPlaces) refl refl refl
       where
         n′ : T (not (has (m .id) (ids (d .executed)) || has (m .id) (ids (d .waiting))))
         n′ = rw (ids-append (d .executed) (d .waiting), has-append (m .id) (ids (d .executed)) (ids (d .waiting))) at n
@@ -234,22 +234,22 @@ module _ (past : MarkId → List MarkId) where
             let n : length (after .listed) - length (map madeOf (d .executed)) ≡ r .k = rw (s, length-map (d .executed) madeOf, length-map (r .executed) madeOf) (omega arith) in
             λ i. record { lists = s i; answer = gives (Executed (n i) (z i)) }
 
-        go : (a b c : Bool) → full d ≡ a → ready (d .executed) m ≡ b → eqb (length (d .waiting)) waitingPlaces ≡ c → Matches d (handOver (listsOf d) (madeOf m)) (arrive d m)
-        go true b c ea eb ec = rw (unknown, handOver) (rw (lists-full d) (rw ea (rw (ea, arrive) (unchanged d (refused 9) o))))
-        go false false true ea eb ec = rw (unknown, handOver) (rw (lists-full d) (rw (ea, arrive) (rw lr (rw eb (rw (length-map (d .waiting) madeOf) (rw ec (unchanged d (refused 10) o)))))))
-        go false false false ea eb ec = rw (unknown, handOver) (rw (lists-full d) (rw (ea, arrive) (rw lr (rw eb (rw (length-map (d .waiting) madeOf) (rw ec
+        go : (a b c : Bool) → full d ≡ a → ready (d .executed) m ≡ b → eqb (length (d .waiting)) waitingPlaces ≡ c → Matches d (handOver (listsOf d) (madeOf m)) (act d (admit d m))
+        go true b c ea eb ec = rw (unknown, handOver) (rw (lists-full d) (rw ea (unchanged d (refused 9) o)))
+        go false false true ea eb ec = rw (unknown, handOver) (rw (lists-full d) (rw (ea, admit) (rw lr (rw eb (rw (length-map (d .waiting) madeOf) (rw ec (unchanged d (refused 10) o)))))))
+        go false false false ea eb ec = rw (unknown, handOver) (rw (lists-full d) (rw (ea, admit) (rw lr (rw eb (rw (length-map (d .waiting) madeOf) (rw ec
             (record { sim = refl; own = refl; ok = record { hist = o .hist; ks = o .ks; lacks = (lm, o .lacks) }; grows = λ e. omega arith })))))))
         go false true c ea eb ec =
             let t : T (ready (d .executed) m) = rw eb tt in
             let x = exec t in
-            rw (unknown, handOver) (rw (lists-full d) (rw (ea, arrive) (rw lr (rw eb (rw (length-map (d .waiting) madeOf) (rw (nf t)
+            rw (unknown, handOver) (rw (lists-full d) (rw (ea, admit) (rw lr (rw eb (rw (length-map (d .waiting) madeOf) (rw (nf t)
             (record { sim = same-outcome x; own = refl; ok = x .ok; grows = λ e. let p = tally-le e (m .id) (ids (d .executed)) in let q = x .grows e in omega arith })))))))
 
     -- Receive of a made mark's frame is its hand-over.
     pub receive-ok : Closed → ((m k : Mark) → K m → K k → m .id ≡ k .id → sameFields m k ≡ true) → (d : State) (m : Mark) → Consistent (d .executed) (d .waiting) → Good past m → K m
         → (unmade d (m .id) || any (unmade d) (m .stamp)) ≡ false → Matches d (handOver (listsOf d) (madeOf m)) (receiveMark d m)
-    unfolding handOver receiveMark refuse
-    receive-ok c one d m o g km made = rw (made, receiveMark) (go (find markId (m .id) (d .executed ++ d .waiting)) refl)
+    unfolding handOver judge
+    receive-ok c one d m o g km made = rw (made, judge) (go (find markId (m .id) (d .executed ++ d .waiting)) refl)
       where
         ks : All K (d .executed ++ d .waiting)
         ks = all-append K (d .executed) (d .waiting) (o .ks) (all-map (λ w l. l .k) (d .waiting) (o .lacks))
@@ -258,11 +258,11 @@ module _ (past : MarkId → List MarkId) where
         pick = find-all K (m .id) (d .executed ++ d .waiting) ks
 
         go : (p : Option Mark) → find markId (m .id) (d .executed ++ d .waiting) ≡ p
-            → Matches d (handOver (listsOf d) (madeOf m)) (elim (find markId (m .id) (d .executed ++ d .waiting)) [
-              | none ↦ arrive d m
-              | some h ↦ elim (sameFields h m) [ true ↦ record { state = d; answer = gives Known } | false ↦ refuse d 8 ]
-            ])
-        go none e = rw e (arrive-ok c d m o g km
+            → Matches d (handOver (listsOf d) (madeOf m)) (act d (elim (find markId (m .id) (d .executed ++ d .waiting)) [
+              | some h ↦ refuseIf (not (sameFields h m)) 8 (gives knows)
+              | none ↦ admit d m
+            ]))
+        go none e = rw e (admit-ok c d m o g km
             (rw (find-has (m .id) (d .executed ++ d .waiting) ∙ ap isSome e) tt)
             (known-has d m ∙ ap isSome e))
         go (some h) e =

@@ -9,7 +9,7 @@ use mathlib.Core.Path.{_∙_, _≡_, ap, refl, subst, sym}
 use Rattle.frame.specs.declared.Past.the-variants.{Unsaid}
 use Rattle.frame.specs.Answer.{Answer, gives, refused}
 use Rattle.frame.specs.Mark.{MarkId, isDesk}
-use Rattle.causality.specs.Calls.{frameOfMark, mark, newMark, receive, receiveMark, toFirstBytes, toFirstMark, toFirstSize, toSecondBytes, toSecondMark, toSecondSize}
+use Rattle.causality.specs.Calls.{frameOfMark, mark, newMark, readMark, receive, receiveMark, toFirstBytes, toFirstMark, toFirstSize, toSecondBytes, toSecondMark, toSecondSize}
 use Rattle.causality.specs.Marks.{All, find, has, same, tally}
 use Rattle.causality.specs.State.{Mark, State, ids, markId, withPast}
 use Rattle.causality.proofs.Conversions.{first-front, first-read, second-front, second-gives, second-read}
@@ -201,7 +201,7 @@ module _ (N : ℕ) (some-desk : 1 ≤ N) where
 
   -- Receive of a fit mark's frame.
   receive-frame : (st : State) (m : Mark) → Fit N m → receive N st (frameOfMark m) ≡ receiveMark st m
-  unfolding receive
+  unfolding receive readMark
   receive-frame st m f = rw (fit-read N m f, fit-back N m f)
 
   one-step : (s : List Step) → AtDesks N s → (t : Step) → T (atDesk N t) → runStep N (onFrames (runMarks N s)) t ≡ onFrames (markStep N (runMarks N s) t)

@@ -9,19 +9,22 @@ use mathlib.Core.Option.{Option, none, some}
 use mathlib.Core.Path.{_∙_, _≡_, ap, refl, sym}
 use native.Mathlib.Omega.{arith}
 use Rattle.rows.specs.declared.Held.{Held}
+use Rattle.frame.specs.Answer.{gives, refused}
+use Rattle.frame.specs.declared.Past.{Past}
 use Rattle.frame.specs.declared.Past.the-variants.{Said, Unsaid}
 use Rattle.frame.specs.Mark.{MarkId, desks}
-use Rattle.causality.specs.Calls.{full, sameFields, unmade}
+use Rattle.causality.specs.Answers.{executes, waits}
+use Rattle.causality.specs.Calls.{admit, full, judge, sameFields, unmade}
 use Rattle.causality.specs.Marks.{any, find, places, same, tally, waitingPlaces}
-use Rattle.causality.specs.State.{Mark, State, falseStamp, ids, markId, missing, ready, reckoned}
+use Rattle.causality.specs.State.{Mark, State, falseStamp, ids, markId, missing, ready, reckoned, withPast}
 use Rattle.causality.proofs.Fit.{Fit}
 use Rattle.causality.proofs.Missing.{ready-missing}
 use Rattle.causality.proofs.Reach.{Sound, sound-counted}
-use Rattle.rows.specs.View.{carriedAt, heldId, heldMark, markAt, pastFrom, placeAt, width}
+use Rattle.rows.specs.View.{carriedAt, heldId, heldMark, heldWith, markAt, pastFrom, placeAt, width}
 use Rattle.executed.specs.Arrays.{Arrays}
 use Rattle.waiting.specs.declared.Waiting.{Waiting}
 use Rattle.verdict.specs.Kept.{KeptIn, stateIn}
-use Rattle.verdict.specs.Judgement.{Tallies, admission, holds, judgement, knownIf, meeting, pastKept, refuses, runs, unmadeBy}
+use Rattle.verdict.specs.Judgement.{Tallies, knownIf, pastKept, unmadeBy}
 use Rattle.predecessors.specs.Steps.{missingBy}
 use Rattle.rows.proofs.ByRows.{row-at}
 use Rattle.predecessors.proofs.MissingLaws.{missing-by-tally}
@@ -68,9 +71,9 @@ module _ (st : State) (h : Held) (t : List ℕ) (count waiting : ℕ) (long : le
   unfolding full
   full-test = λ i. eqb (long i + many i) places
 
-  pub admit-full : count + waiting ≡ places → refuses 9 ≡ admission st (heldMark h)
-  unfolding admission
-  admit-full e = rw (full-test ∙ eq-eqb (count + waiting) places e, admission) refl
+  pub admit-full : count + waiting ≡ places → refused 9 ≡ admit st (heldMark h)
+  unfolding admit
+  admit-full e = rw (full-test ∙ eq-eqb (count + waiting) places e, admit) refl
 
   -- The readiness test yields x.
   module _ (n : count + waiting ≡ places → ⊥) (x : ℕ) (e : x ≡ missingBy width t (h .desk) (h .number .0) (h .row)) where
@@ -92,28 +95,28 @@ module _ (st : State) (h : Held) (t : List ℕ) (count waiting : ℕ) (long : le
         found : pastFrom r ≡ pastKept (st .executed) (heldMark h)
         found = g (rw is-ready tt)
 
-        pub admit-false : r ≡ 0 → refuses 11 ≡ admission st (heldMark h)
-        unfolding admission
-        admit-false s = rw (room, admission) (rw is-ready (rw (kept-none (st .executed) (heldMark h) r found s) refl))
+        pub admit-false : r ≡ 0 → refused 11 ≡ admit st (heldMark h)
+        unfolding admit
+        admit-false s = rw (room, admit) (rw is-ready (rw (kept-none (st .executed) (heldMark h) r found s) refl))
 
-        pub admit-runs : (r ≡ 0 → ⊥) → runs (pastFrom r) ≡ admission st (heldMark h)
-        unfolding admission
-        admit-runs s = let k = kept-some (st .executed) (heldMark h) r found s in rw (room, admission) (rw is-ready (rw (k .0) (ap runs (k .1))))
+        pub admit-runs : (r ≡ 0 → ⊥) → gives (executes (heldMark (heldWith h r))) ≡ admit st (heldMark h)
+        unfolding admit
+        admit-runs s = let k = kept-some (st .executed) (heldMark h) r found s in rw (room, admit) (rw is-ready (rw (k .0) (ap (λ (p : Past). gives (executes (withPast (heldMark h) p))) (k .1))))
 
     -- Not ready.
     module _ (z : x ≡ 0 → ⊥) where
       not-ready : ready (st .executed) (heldMark h) ≡ false
       not-ready = ready-test ∙ ne-eqb x 0 z
 
-      pub admit-crowded : waiting ≡ waitingPlaces → refuses 10 ≡ admission st (heldMark h)
-      unfolding admission
-      admit-crowded w = rw (room, admission) (rw not-ready (rw (ap (λ (x : ℕ). eqb x waitingPlaces) many ∙ eq-eqb waiting waitingPlaces w) refl))
+      pub admit-crowded : waiting ≡ waitingPlaces → refused 10 ≡ admit st (heldMark h)
+      unfolding admit
+      admit-crowded w = rw (room, admit) (rw not-ready (rw (ap (λ (x : ℕ). eqb x waitingPlaces) many ∙ eq-eqb waiting waitingPlaces w) refl))
 
-      pub admit-holds : (waiting ≡ waitingPlaces → ⊥) → holds x ≡ admission st (heldMark h)
-      unfolding admission
-      admit-holds w = rw (room, admission) (rw not-ready (rw (ap (λ (x : ℕ). eqb x waitingPlaces) many ∙ ne-eqb waiting waitingPlaces w) (ap holds (sym short-test))))
+      pub admit-holds : (waiting ≡ waitingPlaces → ⊥) → gives (waits (heldMark h) x) ≡ admit st (heldMark h)
+      unfolding admit
+      admit-holds w = rw (room, admit) (rw not-ready (rw (ap (λ (x : ℕ). eqb x waitingPlaces) many ∙ ne-eqb waiting waitingPlaces w) (ap (λ (n : ℕ). gives (waits (heldMark h) n)) (sym short-test))))
 
--- KNOWN
+-- 7, KNOWN AND 8
 
 abbrev orElse : Option Mark → Option Mark → Option Mark
 orElse none o = o
@@ -128,40 +131,7 @@ find-append i (x ∷ xs) ys = go (same i (x .id)) (find-append i xs ys)
     go true ih = refl
     go false ih = ih
 
-module _ (own : ℕ) (b : Arrays) (q : Waiting) (h : Held) where
-  -- A held mark a of the same name: the judgement is Known or 8 by the fields.
-  meet-held : (a : Held) → find markId (heldId h) ((stateIn own b q) .executed ++ (stateIn own b q) .waiting) ≡ some (heldMark a)
-      → knownIf (sameFields (heldMark a) (heldMark h)) ≡ meeting (stateIn own b q) (heldMark h)
-  unfolding meeting
-  meet-held a w = rw (w, meeting) refl
-
-  -- A mark found among the executed ones, or else among the waiting ones.
-  pub meet-executed : (p : ℕ) (a : Held) → p < b .count
-      → placeAt width (b .count) p (b .desks) (b .numbers) (carriedAt (b .boxes) (b .pasts)) (b .stamps) ≡ find markId (heldId h) ((stateIn own b q) .executed)
-      → heldMark a ≡ markAt width (b .desks) (b .numbers) (carriedAt (b .boxes) (b .pasts)) (b .stamps) p
-      → knownIf (sameFields (heldMark a) (heldMark h)) ≡ meeting (stateIn own b q) (heldMark h)
-  meet-executed p a l e m =
-      let s = found-some width (b .desks) (b .numbers) (carriedAt (b .boxes) (b .pasts)) (b .stamps) (b .count) p (heldId h) l e in
-      meet-held a
-      (find-append (heldId h) ((stateIn own b q) .executed) ((stateIn own b q) .waiting) ∙ ap (λ (o : Option Mark). orElse o (find markId (heldId h) ((stateIn own b q) .waiting))) (s .0 ∙ ap some (sym m)))
-
-  module _ (n : find markId (heldId h) ((stateIn own b q) .executed) ≡ none) (i : ℕ)
-      (e : placeAt width (q .count) i (q .desks) (q .numbers) (carriedAt (q .boxes) (q .pasts)) (q .stamps) ≡ find markId (heldId h) ((stateIn own b q) .waiting)) where
-    both : (o : Option Mark) → find markId (heldId h) ((stateIn own b q) .waiting) ≡ o → find markId (heldId h) ((stateIn own b q) .executed ++ (stateIn own b q) .waiting) ≡ o
-    both o w = find-append (heldId h) ((stateIn own b q) .executed) ((stateIn own b q) .waiting) ∙ ap (λ (x : Option Mark). orElse x (find markId (heldId h) ((stateIn own b q) .waiting))) n ∙ w
-
-    pub meet-waiting : (a : Held) → i < q .count → heldMark a ≡ markAt width (q .desks) (q .numbers) (carriedAt (q .boxes) (q .pasts)) (q .stamps) i
-        → knownIf (sameFields (heldMark a) (heldMark h)) ≡ meeting (stateIn own b q) (heldMark h)
-    meet-waiting a l m =
-        let s = found-some width (q .desks) (q .numbers) (carriedAt (q .boxes) (q .pasts)) (q .stamps) (q .count) i (heldId h) l e in
-        meet-held a (both (some (heldMark a)) (s .0 ∙ ap some (sym m)))
-
-    pub meet-none : q .count ≤ i → admission (stateIn own b q) (heldMark h) ≡ meeting (stateIn own b q) (heldMark h)
-    unfolding meeting
-    meet-none l = rw (both none (found-none width (q .desks) (q .numbers) (carriedAt (q .boxes) (q .pasts)) (q .stamps) (q .count) i (heldId h) l e .0), meeting) refl
-
--- 7
-
+-- The mark passes 7, as the tally tells.
 module _ (own : ℕ) (b : Arrays) (q : Waiting) (h : Held) (k : KeptIn own b q) where
   pub kept-tallies : Tallies ((stateIn own b q) .executed) (b .tally)
   kept-tallies = row-at width (b .tally) (λ e. tally e (ids ((stateIn own b q) .executed))) (k .ordered .rows .tally)
@@ -172,10 +142,40 @@ module _ (own : ℕ) (b : Arrays) (q : Waiting) (h : Held) (k : KeptIn own b q) 
       let e = sym (kept-tallies (own) (o .0) (o .1)) in
       unmade-by-row width (stateIn own b q) (h .row) (o .0) (o .1) (heldId h) ∙ (λ i. (eqb (h .desk) (own) && ltb (e i) (h .number .0)) || ltb (e i) (getD (h .row) (own - 1) 0))
 
-  pub judge-unmade : unmadeBy (b .tally) (own) h ≡ true → refuses 7 ≡ judgement (stateIn own b q) (heldMark h)
-  unfolding judgement
-  judge-unmade e = rw (unmade-test ∙ e, judgement) refl
+  pub judge-unmade : unmadeBy (b .tally) (own) h ≡ true → refused 7 ≡ judge (stateIn own b q) (heldMark h)
+  unfolding judge
+  judge-unmade e = rw (unmade-test ∙ e, judge) refl
 
-  pub judge-made : unmadeBy (b .tally) (own) h ≡ false → meeting (stateIn own b q) (heldMark h) ≡ judgement (stateIn own b q) (heldMark h)
-  unfolding judgement
-  judge-made e = rw (unmade-test ∙ e, judgement) refl
+  module _ (made : unmadeBy (b .tally) (own) h ≡ false) where
+    -- A held mark a of the same name: Known or 8 by the fields.
+    judge-held : (a : Held) → find markId (heldId h) ((stateIn own b q) .executed ++ (stateIn own b q) .waiting) ≡ some (heldMark a)
+        → knownIf (sameFields (heldMark a) (heldMark h)) ≡ judge (stateIn own b q) (heldMark h)
+    unfolding judge
+    judge-held a w = rw (unmade-test ∙ made, judge) (rw w refl)
+
+    -- A mark found among the executed ones, or else among the waiting ones.
+    pub judge-executed : (p : ℕ) (a : Held) → p < b .count
+        → placeAt width (b .count) p (b .desks) (b .numbers) (carriedAt (b .boxes) (b .pasts)) (b .stamps) ≡ find markId (heldId h) ((stateIn own b q) .executed)
+        → heldMark a ≡ markAt width (b .desks) (b .numbers) (carriedAt (b .boxes) (b .pasts)) (b .stamps) p
+        → knownIf (sameFields (heldMark a) (heldMark h)) ≡ judge (stateIn own b q) (heldMark h)
+    judge-executed p a l e m =
+        let s = found-some width (b .desks) (b .numbers) (carriedAt (b .boxes) (b .pasts)) (b .stamps) (b .count) p (heldId h) l e in
+        judge-held a
+        (find-append (heldId h) ((stateIn own b q) .executed) ((stateIn own b q) .waiting) ∙ ap (λ (o : Option Mark). orElse o (find markId (heldId h) ((stateIn own b q) .waiting))) (s .0 ∙ ap some (sym m)))
+
+    module _ (n : find markId (heldId h) ((stateIn own b q) .executed) ≡ none) (i : ℕ)
+        (e : placeAt width (q .count) i (q .desks) (q .numbers) (carriedAt (q .boxes) (q .pasts)) (q .stamps) ≡ find markId (heldId h) ((stateIn own b q) .waiting)) where
+      both : (o : Option Mark) → find markId (heldId h) ((stateIn own b q) .waiting) ≡ o → find markId (heldId h) ((stateIn own b q) .executed ++ (stateIn own b q) .waiting) ≡ o
+      both o w = find-append (heldId h) ((stateIn own b q) .executed) ((stateIn own b q) .waiting) ∙ ap (λ (x : Option Mark). orElse x (find markId (heldId h) ((stateIn own b q) .waiting))) n ∙ w
+
+      pub judge-waiting : (a : Held) → i < q .count → heldMark a ≡ markAt width (q .desks) (q .numbers) (carriedAt (q .boxes) (q .pasts)) (q .stamps) i
+          → knownIf (sameFields (heldMark a) (heldMark h)) ≡ judge (stateIn own b q) (heldMark h)
+      judge-waiting a l m =
+          let s = found-some width (q .desks) (q .numbers) (carriedAt (q .boxes) (q .pasts)) (q .stamps) (q .count) i (heldId h) l e in
+          judge-held a (both (some (heldMark a)) (s .0 ∙ ap some (sym m)))
+
+      pub judge-new : q .count ≤ i → admit (stateIn own b q) (heldMark h) ≡ judge (stateIn own b q) (heldMark h)
+      unfolding judge
+      judge-new l =
+          let w = both none (found-none width (q .desks) (q .numbers) (carriedAt (q .boxes) (q .pasts)) (q .stamps) (q .count) i (heldId h) l e .0) in
+          rw (unmade-test ∙ made, judge) (rw w refl)

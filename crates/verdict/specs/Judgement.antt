@@ -1,19 +1,19 @@
--- What Receive finds of a mark, in the terms of causality, and what the steps to it find. Inner: need not be believed.
+-- What the verdict of Receive means, in the terms of causality, and what the steps to it find. Inner: need not be believed.
 use mathlib.Core.Path.{_≡_}
-use mathlib.Core.Bool.{Bool, true, false, _&&_, _||_}
-use mathlib.Core.List.{List, _++_}
-use mathlib.Core.Option.{none, some}
+use mathlib.Core.Bool.{Bool, true, false, not, _&&_, _||_}
+use mathlib.Core.List.{List}
 use Prim.Native.Nat.{ℕ, _-_, _≤_, _<_}
 use lib.Dec.{T, eqb, ltb}
 use lib.ListN.{length, getD}
-use Rattle.frame.specs.Answer.{numberOf}
+use Rattle.frame.specs.Answer.{Answer, gives, numberOf, refuseIf, refused}
 use Rattle.frame.specs.declared.Past.{Past}
 use Rattle.frame.specs.declared.Past.the-variants.{Unsaid}
-use Rattle.causality.specs.Marks.{waitingPlaces, any, find, has, tally}
-use Rattle.causality.specs.State.{Mark, markId, State, ids, ready, missing, falseStamp, reckoned}
-use Rattle.causality.specs.Calls.{full, unmade, sameFields}
+use Rattle.causality.specs.Marks.{has, tally}
+use Rattle.causality.specs.State.{Mark, State, ids, ready, falseStamp, reckoned}
+use Rattle.causality.specs.Answers.{Judgement, knows, waits, executes}
+use Rattle.causality.specs.Calls.{admit}
 use Rattle.causality.proofs.Reach.{Sound}
-use Rattle.rows.specs.View.{Carried, carriedAt, heldId, heldMark, namesDown, pastFrom, rowFn, view, width}
+use Rattle.rows.specs.View.{Carried, carriedAt, heldId, heldMark, heldWith, namesDown, pastFrom, rowFn, view, width}
 use Rattle.rows.specs.declared.Held.{Held}
 use Rattle.executed.specs.Arrays.{arrays}
 use Rattle.waiting.specs.Queue.{waitingIn}
@@ -22,40 +22,16 @@ use Rattle.verdict.specs.declared.Verdict.{Verdict}
 use Rattle.verdict.specs.declared.Verdict.the-variants.{Refused, Known, Waits, Runs}
 use Rattle.verdict.specs.Kept.{KeptIn}
 
--- What Receive finds of a mark: a refusal, or what it does; a mark that it holds is short of so many, and of one that it runs the past is said.
-pub data Judgement : Type 0 where
-  refuses holds : ℕ → Judgement
-  knows : Judgement
-  runs : Past → Judgement
+-- What a verdict on a held mark means. What is kept of the past of a mark that runs is its reckoning.
+abbrev pub meant : Held → Verdict → Answer (Judgement Mark)
+meant h (Refused r) = refused (numberOf r)
+meant h Known = gives knows
+meant h (Waits short) = gives (waits (heldMark h) short)
+meant h (Runs past) = gives (executes (heldMark (heldWith h past)))
 
-abbrev pub verdictOf : Verdict → Judgement
-verdictOf (Refused r) = refuses (numberOf r)
-verdictOf Known = knows
-verdictOf (Waits short) = holds short
-verdictOf (Runs past) = runs (pastFrom past)
-
--- Of a mark that is neither executed nor waiting: 9, 10, 11.
-unfoldable pub admission : State → Mark → Judgement
-admission st m =
-    elim (full st) [
-      | true ↦ refuses 9
-      | false ↦ elim (ready (st .executed) m) [
-        | false ↦ elim (eqb (length (st .waiting)) waitingPlaces) [ true ↦ refuses 10 | false ↦ holds (missing (st .executed) m) ]
-        | true ↦ elim (falseStamp (st .executed) m) [ true ↦ refuses 11 | false ↦ runs (reckoned (st .executed) m .past) ]
-      ]
-    ]
-
-abbrev pub knownIf : Bool → Judgement
-knownIf true = knows
-knownIf false = refuses 8
-
--- Known, 8, and else the above.
-unfoldable pub meeting : State → Mark → Judgement
-meeting st m = elim (find markId (m .id) (st .executed ++ st .waiting)) [ none ↦ admission st m | some h ↦ knownIf (sameFields h m) ]
-
--- 7, and then the above.
-unfoldable pub judgement : State → Mark → Judgement
-judgement st m = elim (unmade st (m .id) || any (unmade st) (m .stamp)) [ true ↦ refuses 7 | false ↦ meeting st m ]
+-- Known or 8, of a mark of the same name with the same fields or not.
+abbrev pub knownIf : Bool → Answer (Judgement Mark)
+knownIf same = refuseIf (not same) 8 (gives knows)
 
 -- 7, by the tally.
 abbrev pub unmadeBy : List ℕ → ℕ → Held → Bool
@@ -99,7 +75,7 @@ Reckons count ds ns ss h r = (bs : ℕ → Carried) → Sound (view width count 
 abbrev pub AdmittedBy : List ℕ → ℕ → List ℕ → List ℕ → List ℕ → ℕ → Held → Verdict → Type 0
 AdmittedBy t count ds ns ss waiting h r = (own : ℕ) (bs : ℕ → Carried) (ws : List Mark) → length ws ≡ waiting
     → Sound (view width count ds ns bs ss) → Tallies (view width count ds ns bs ss) t
-    → verdictOf r ≡ admission (record { own = own; executed = view width count ds ns bs ss; waiting = ws }) (heldMark h)
+    → meant h r ≡ admit (record { own = own; executed = view width count ds ns bs ss; waiting = ws }) (heldMark h)
 
 -- The arrays are those of a desk that came from New and the calls, with some heads; its state.
 pub record Judges (own count : ℕ) (ds ns bs ps ss ts ls bf : List ℕ) (q : Waiting) : Type 0 where

@@ -2,12 +2,12 @@
 ghost use mathlib.Core.Path.{_≡_};
 ghost use Prim.Native.Nat.{_+_, _≤_};
 ghost use Rattle.causality.specs.Marks.{places};
-ghost use Rattle.causality.specs.Calls.{sameBox, sameFields};
+ghost use Rattle.causality.specs.Calls.{judge as judging, sameBox, sameFields};
 ghost use Rattle.causality.specs.State.{sameCount};
 ghost use Rattle.causality.proofs.Fit.{Fit};
 ghost use Rattle.rows.specs.View.{width, Named, heldMark, pastFrom};
 ghost use Rattle.waiting.specs.Queue.{queueOf};
-ghost use Rattle.verdict.specs.Judgement.{verdictOf, knownIf, judgement, unmadeBy, Asked, NewIn, ReadyIn, Reckons, AdmittedBy, Judges, lentState};
+ghost use Rattle.verdict.specs.Judgement.{meant, knownIf, unmadeBy, Asked, NewIn, ReadyIn, Reckons, AdmittedBy, Judges, lentState};
 use causality::MarkId;
 use causality::Place;
 use frame::MarkBox;
@@ -178,7 +178,7 @@ fn admit<'a>(
 
 // Of a mark of the same name: Known, or 8.
 fn known(a: Held, b: Held) -> Verdict
-    ensures { λ r. ⌜ verdictOf r ≡ knownIf (sameFields (heldMark a) (heldMark b)) ⌝ }
+    ensures { λ r. ⌜ meant b r ≡ knownIf (sameFields (heldMark a) (heldMark b)) ⌝ }
 {
     if same_fields(a, b) {
         return Verdict::Known;
@@ -208,8 +208,8 @@ pub fn judge<'a>(
 ) -> Verdict
     requires { ⌜ Judges own count (now desks) (now numbers) (now boxes) (now pasts) (now stamps) (now tally) (now last) (now before)
         (queueOf waiting (now wdesks) (now wnumbers) (now wboxes) (now wpasts) (now wstamps)) × Fit width (heldMark h) ⌝ }
-    ensures { λ r. ⌜ verdictOf r
-        ≡ judgement (lentState own count (now (desks .entry)) (now (numbers .entry)) (now (boxes .entry)) (now (pasts .entry)) (now (stamps .entry))
+    ensures { λ r. ⌜ meant h r
+        ≡ judging (lentState own count (now (desks .entry)) (now (numbers .entry)) (now (boxes .entry)) (now (pasts .entry)) (now (stamps .entry))
         (queueOf waiting (now (wdesks .entry)) (now (wnumbers .entry)) (now (wboxes .entry)) (now (wpasts .entry)) (now (wstamps .entry)))) (heldMark h) ⌝ }
 {
     let n = h.number;

@@ -8,12 +8,12 @@ use mathlib.Core.Path.{_∙_, _≡_, ap, refl, sym}
 use Rattle.frame.specs.declared.MarkBox.{MarkBox}
 use Rattle.frame.specs.Answer.{Answer, gives, refused}
 use Rattle.frame.specs.Mark.{MarkId, isDesk}
-use Rattle.causality.specs.Answers.{Numbered}
-use Rattle.causality.specs.Calls.{Created, FromCalls, Received, begun, empty, execute, executing, mark, markAnswer, markIn, marked, new, newMark, receive, received, release, stateIf}
+use Rattle.causality.specs.Answers.{Judgement, Numbered}
+use Rattle.causality.specs.Calls.{Created, FromCalls, act, begun, empty, execute, executing, mark, markAnswer, markIn, marked, new, newMark, receive, received, release, stateIf}
 use Rattle.causality.specs.Marks.{find, has, lowest, same, without}
 use Rattle.causality.specs.State.{Mark, State, falseStamp, ids, markId, ready, reckoned}
 use Rattle.causality.proofs.Lists.{find-has, has-append, ids-append, isSome}
-use Rattle.causality.proofs.Cases.{ReceiveCase, executes, received-case, stays, waits}
+use Rattle.causality.proofs.Cases.{JudgeCase, received-case, to-execute, to-know, to-refuse, to-wait}
 use Rattle.waiting.specs.Queue.{Distinct}
 use Rattle.waiting.proofs.ListLaws.{or-fst, or-snd}
 
@@ -52,16 +52,17 @@ absent a xs ys e = or-snd (has a (ids xs)) (has a (ids ys)) (sym (has-append a (
 
 module _ (N : ℕ) where
   distinct-receive : (st : State) (s : List ℕ) → Distinct (st .waiting) → Distinct ((receive N st s) .state .waiting)
-  unfolding executing
+  unfolding receive executing
   distinct-receive st s d = go (received-case N st s)
     where
       m : Mark
       m = markIn N s
 
-      go : {x : Received} → ReceiveCase st m x → Distinct (x .state .waiting)
-      go (stays a z) = d
-      go (waits a b c n p) = (absent (m .id) (st .executed) (st .waiting) (a .absent), d)
-      go (executes a b c) = distinct-release (length (st .waiting)) (reckoned (st .executed) m ∷ st .executed) (st .waiting) 1 0 d
+      go : {j : Answer (Judgement Mark)} → JudgeCase st m j → Distinct ((act st j) .state .waiting)
+      go (to-refuse c) = d
+      go to-know = d
+      go (to-wait a b c) = (absent (m .id) (st .executed) (st .waiting) (a .absent), d)
+      go (to-execute a b c) = distinct-release (length (st .waiting)) (reckoned (st .executed) m ∷ st .executed) (st .waiting) 1 0 d
 
   distinct-marked : (st : State) (b : MarkBox) (out : List ℕ) → Distinct (st .waiting) → Distinct ((mark N st b out) .state .waiting)
   unfolding mark

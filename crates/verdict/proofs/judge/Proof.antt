@@ -15,7 +15,7 @@ use Rattle.waiting.specs.Queue.{queueOf, waitingIn}
 use Rattle.waiting.specs.declared.Waiting.{Waiting}
 use Rattle.verdict.specs.Kept.{stateIn}
 use Rattle.verdict.proofs.Invariant.{kept-count, kept-few, kept-lent, kept-named, kept-own, kept-sound, kept-total, waiting-length}
-use Rattle.verdict.proofs.Judging.{judge-made, judge-unmade, kept-tallies, meet-executed, meet-none, meet-waiting}
+use Rattle.verdict.proofs.Judging.{judge-executed, judge-new, judge-unmade, judge-waiting, kept-tallies}
 use Rattle.verdict.proofs.judge.Statement.{statement}
 use Rattle.verdict.proofs.judge.Tie as tie
 
@@ -52,8 +52,8 @@ returns-2 c =
     let k = s .pre .0 .kept in
     let f = c .before .before .before .before .before .before .before .before in
     let l = found-inside (a .count) (a .desks .now) (a .numbers .now) (a .tally .now) (a .last .now) (a .before .now) (kept-lent (s .args .own) (marks s) (queue s) k) (heldId (a .h)) (f .find .result) (f .find .ensures) (c .before .before .before .before .before .before .before .if2 .taken) in
-    c .known .ensures ∙ meet-executed (s .args .own) (marks s) (queue s) (a .h) (f .find .result) (c .before .mark-at .result) l (placed f) (c .before .mark-at .ensures)
-    ∙ judge-made (s .args .own) (marks s) (queue s) (a .h) k (sym (c .before .before .before .before .before .before .before .before .before .before .unmade .ensures) ∙ c .before .before .before .before .before .before .before .before .before .if1 .left)
+    c .known .ensures ∙ judge-executed (s .args .own) (marks s) (queue s) (a .h) k (sym (c .before .before .before .before .before .before .before .before .before .before .unmade .ensures) ∙ c .before .before .before .before .before .before .before .before .before .if1 .left)
+    (f .find .result) (c .before .mark-at .result) l (placed f) (c .before .mark-at .ensures)
 
 find-requires-2 : tie.Need-find-requires-2
 find-requires-2 c κs = kept-few _ _ _ (c .before .before .before .before .before .before .pre .0 .kept)
@@ -86,8 +86,8 @@ returns-3 c =
     let a = s .args in
     let k = s .pre .0 .kept in
     let f = c .before .before .before .before .before .before .before .before in
-    c .known2 .ensures ∙ meet-waiting (s .args .own) (marks s) (queue s) (a .h) (absent (f .before) .0) (f .find2 .result) (f .find2 .ensures .mark (carriedAt (a .wboxes .now) (a .wpasts .now)) (a .wstamps .now)) (c .before .mark-at2 .result) (c .before .before .before .before .before .before .before .if3 .taken) (c .before .mark-at2 .ensures)
-    ∙ judge-made (s .args .own) (marks s) (queue s) (a .h) k (sym (c .before .before .before .before .before .before .before .before .before .before .before .before .unmade .ensures) ∙ c .before .before .before .before .before .before .before .before .before .before .before .if1 .left)
+    c .known2 .ensures ∙ judge-waiting (s .args .own) (marks s) (queue s) (a .h) k (sym (c .before .before .before .before .before .before .before .before .before .before .before .before .unmade .ensures) ∙ c .before .before .before .before .before .before .before .before .before .before .before .if1 .left)
+    (absent (f .before) .0) (f .find2 .result) (f .find2 .ensures .mark (carriedAt (a .wboxes .now) (a .wpasts .now)) (a .wstamps .now)) (c .before .mark-at2 .result) (c .before .before .before .before .before .before .before .if3 .taken) (c .before .mark-at2 .ensures)
 
 admit-requires : tie.Need-admit-requires
 admit-requires c κs =
@@ -115,8 +115,8 @@ returns-4 c =
     let k = s .pre .0 .kept in
     let f = c .before .before in
     c .admit .ensures (a .own) (carriedAt (a .boxes .now) (a .pasts .now)) (waitingIn (queue s)) (waiting-length (s .args .own) (marks s) (queue s)) (kept-sound (s .args .own) (marks s) (queue s) k) (kept-tallies (s .args .own) (marks s) (queue s) (a .h) k)
-    ∙ meet-none (s .args .own) (marks s) (queue s) (a .h) (absent (f .before) .0) (f .find2 .result) (f .find2 .ensures .mark (carriedAt (a .wboxes .now) (a .wpasts .now)) (a .wstamps .now)) (c .before .if3 .left)
-    ∙ judge-made (s .args .own) (marks s) (queue s) (a .h) k (sym (c .before .before .before .before .before .before .unmade .ensures) ∙ c .before .before .before .before .before .if1 .left)
+    ∙ judge-new (s .args .own) (marks s) (queue s) (a .h) k (sym (c .before .before .before .before .before .before .unmade .ensures) ∙ c .before .before .before .before .before .if1 .left)
+    (absent (f .before) .0) (f .find2 .result) (f .find2 .ensures .mark (carriedAt (a .wboxes .now) (a .wpasts .now)) (a .wstamps .now)) (c .before .if3 .left)
 
 pub judge-spec : {M : Type 1} → statement M
 judge-spec =

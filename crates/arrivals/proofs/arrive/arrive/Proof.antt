@@ -1,4 +1,4 @@
--- `arrive` meets its contract: what the verdict says comes of it (Receipt).
+-- `arrive` meets its contract: what the verdict says comes of it (Arriving).
 use mathlib.Core.Path.{_≡_, _∙_, ap, refl, sym}
 use borrow.Author.Needs.{needs}
 use Rattle.rows.specs.View.{heldMark}
@@ -6,8 +6,9 @@ use Rattle.executed.specs.Arrays.{Arrays, here}
 use Rattle.waiting.specs.Queue.{here as heldHere}
 use Rattle.waiting.specs.declared.Waiting.{Waiting}
 use Rattle.verdict.specs.Kept.{stateIn}
-use Rattle.verdict.specs.Judgement.{judgement, verdictOf}
-use Rattle.arrivals.proofs.Arriving.{holds-room, promise-holds, promise-known, promise-refused, promise-runs, runs-midway, runs-takes}
+use Rattle.causality.specs.Calls.{judge}
+use Rattle.verdict.specs.Judgement.{meant}
+use Rattle.arrivals.proofs.Arriving.{promise-runs, promise-stays, promise-waits, runs-midway, runs-takes, waits-room}
 use Rattle.arrivals.proofs.arrive.arrive.Statement.{statement}
 use Rattle.arrivals.proofs.arrive.arrive.Tie as tie
 
@@ -25,21 +26,21 @@ abbrev start : tie.After-judge → tie.Start
 start g = g .before .before .before .before .before .before .before .before .before .before .before .before .before .before .before .before
 
 -- The verdict is the judgement.
-judged : (g : tie.After-judge) → let s = start g in verdictOf (g .judge .result) ≡ judgement (stateIn (s .args .own) (marks s) (queue s)) (heldMark (s .args .h))
+judged : (g : tie.After-judge) → let s = start g in meant (s .args .h) (g .judge .result) ≡ judge (stateIn (s .args .own) (marks s) (queue s)) (heldMark (s .args .h))
 judged g = g .judge .ensures
 
 push-requires : tie.Need-push-requires
 push-requires c κs =
     let g = c .before .before .before .before .before .before .before .before .before in
     let s = start g in
-    (s .pre .0 .queued, holds-room (s .args .own) (marks s) (queue s) (s .pre .0) (s .args .h) _ (sym (ap verdictOf (c .before .before .before .before .before .before .before .short .given .1)) ∙ judged g))
+    (s .pre .0 .queued, waits-room (s .args .own) (marks s) (queue s) (s .pre .0) (s .args .h) _ (sym (ap (meant (s .args .h)) (c .before .before .before .before .before .before .before .short .given .1)) ∙ judged g))
 
 execute-requires : tie.Need-execute-requires
 execute-requires c κs =
     let w = c .before .before .before .before .before .before .before .before .before .before in
     let g = w .before .before .before .before in
     let s = start g in
-    rw (w .with-past .ensures) (runs-takes (s .args .own) (marks s) (queue s) (s .pre .0) (s .args .h) (s .pre .1) _ (sym (ap verdictOf (w .before .before .past .given .1)) ∙ judged g))
+    rw (w .with-past .ensures) (runs-takes (s .args .own) (marks s) (queue s) (s .pre .0) (s .args .h) (s .pre .1) _ (sym (ap (meant (s .args .h)) (w .before .before .past .given .1)) ∙ judged g))
 
 release-requires : tie.Need-release-requires
 release-requires c κs =
@@ -47,26 +48,26 @@ release-requires c κs =
     let w = e .before .before .before .before .before .before .before .before .before .before .before in
     let g = w .before .before .before .before in
     let s = start g in
-    runs-midway (s .args .own) (marks s) (queue s) (s .pre .0) (s .args .h) (s .pre .1) _ (sym (ap verdictOf (w .before .before .past .given .1)) ∙ judged g) _
+    runs-midway (s .args .own) (marks s) (queue s) (s .pre .0) (s .args .h) (s .pre .1) _ (sym (ap (meant (s .args .h)) (w .before .before .past .given .1)) ∙ judged g) _
     (rw (w .with-past .ensures) at (e .execute .ensures))
 
 returns : tie.Need-returns
 returns c =
     let g = c .before .before .before in
     let s = start g in
-    promise-refused (s .args .own) (marks s) (queue s) (s .pre .0) (s .args .h) _ _ (sym (ap verdictOf (c .before .refusal .given .1)) ∙ judged g) refl
+    promise-stays (s .args .own) (marks s) (queue s) (s .pre .0) (s .args .h) _ _ (sym (ap (meant (s .args .h)) (c .before .refusal .given .1)) ∙ judged g) refl refl
 
 returns-2 : tie.Need-returns-2
 returns-2 c =
     let g = c .before .before in
     let s = start g in
-    promise-known (s .args .own) (marks s) (queue s) (s .pre .0) (s .args .h) _ (sym (ap verdictOf (c .enum-told .given .1)) ∙ judged g) refl
+    promise-stays (s .args .own) (marks s) (queue s) (s .pre .0) (s .args .h) _ _ (sym (ap (meant (s .args .h)) (c .enum-told .given .1)) ∙ judged g) refl refl
 
 returns-3 : tie.Need-returns-3
 returns-3 c =
     let g = c .before .before .before .before .before .before .before .before .before .before in
     let s = start g in
-    promise-holds (s .args .own) (marks s) (queue s) (s .pre .0) (s .args .h) _ _ _ (sym (ap verdictOf (c .before .before .before .before .before .before .before .before .short .given .1)) ∙ judged g) (c .push .ensures) refl
+    promise-waits (s .args .own) (marks s) (queue s) (s .pre .0) (s .args .h) _ _ _ (sym (ap (meant (s .args .h)) (c .before .before .before .before .before .before .before .before .short .given .1)) ∙ judged g) (c .push .ensures) refl
 
 returns-4 : tie.Need-returns-4
 returns-4 c =
@@ -74,7 +75,7 @@ returns-4 c =
     let w = e .before .before .before .before .before .before .before .before .before .before .before in
     let g = w .before .before .before .before in
     let s = start g in
-    promise-runs (s .args .own) (marks s) (queue s) (s .pre .0) (s .args .h) (s .pre .1) _ (sym (ap verdictOf (w .before .before .past .given .1)) ∙ judged g) _
+    promise-runs (s .args .own) (marks s) (queue s) (s .pre .0) (s .args .h) (s .pre .1) _ (sym (ap (meant (s .args .h)) (w .before .before .past .given .1)) ∙ judged g) _
     (rw (w .with-past .ensures) at (e .execute .ensures)) _ _ (c .release .result) (c .release .ensures)
 
 pub arrive-spec : {M : Type 1} → statement M
