@@ -10,13 +10,12 @@ use native.Mathlib.Omega.{arith}
 use Rattle.frame.specs.Mark.{MarkId}
 use Rattle.causality.specs.Marks.{has, keep, same, tally}
 use Rattle.causality.specs.State.{Mark, ids, precedes, reckoning}
-use Rattle.causality.proofs.Apart.{trace-counts}
+use Rattle.causality.proofs.Apart.{past-counts}
 use Rattle.causality.proofs.Lists.{has-self, keep-cong}
 use Rattle.causality.proofs.Logic.{nT→eq, or-inr, split}
-use Rattle.causality.proofs.Past.{Counted, prefix-le, tally-le, tally-same}
+use Rattle.causality.proofs.Past.{Counted, prefix-le, tally-same}
 use Rattle.causality.proofs.Reach.{Sound, local-hist, local-precedes, precedes-self, sound-counted}
-use Rattle.causality.proofs.RowLaws.{under, under-trace}
-use Rattle.causality.proofs.Rows.{row-find, rowOf, trace}
+use Rattle.causality.specs.inner.Passes.{rowOf, under}
 
 -- The counts of a row for desks 1 to n, added up.
 abbrev pub rowSum : ℕ → (ℕ → ℕ) → ℕ
@@ -95,70 +94,35 @@ sum-counts n r (i ∷ is) c f = go (leb (i .number) (r (i .desk))) refl (sum-cou
           | inr t ↦ sym (same-else d (λ z. T-not (eqb d (i .desk)) t (rw z (eqb-refl (i .desk)))))
         ])
 
--- The entries of a sound list's newest mark reach no mark that is not listed.
-trace-tally : (m : Mark) (older : List Mark) → Sound (m ∷ older) → (d : ℕ) → trace older (rowOf (m .stamp)) d ≤ tally d (ids older)
-trace-tally m older s d = elim (split (leb 1 n)) [
-  | inl t ↦
-      let p : T (precedes (m ∷ older) i (m .id)) = rw (trace-counts m older s i (leb→le 1 n t)) (le→leb n n (omega arith)) in
-      let h = local-hist (m ∷ older) s in
-      let l = h .0 .behind i (rw (local-precedes (m ∷ older) s i (m .id)) p) in
-      (prefix-le (ids older) (sound-counted older (s .1)) i l) .1
-  | inr t ↦ let k = nleb→lt 1 n t in omega arith
-]
-  where
-    n : ℕ
-    n = trace older (rowOf (m .stamp)) d
+-- "by rows, the sum of the past row": two rows that together are that of the newest mark's entries, after the pass.
+module _ (n : ℕ) (m : Mark) (older : List Mark) (so : Sound (m ∷ older)) (s r : ℕ → ℕ) (all : (d : ℕ) → max (s d) (r d) ≡ rowOf (m .stamp) d) where
+  abbrev row : ℕ → ℕ
+  row d = max (s d) (under older s r d)
 
-    i : MarkId
-    i = record { desk = d; number = n }
+  -- The row counts no mark that is not listed.
+  row-tally : (d : ℕ) → row d ≤ tally d (ids older)
+  row-tally d = elim (split (leb 1 (row d))) [
+    | inl t ↦
+        let i : MarkId = record { desk = d; number = row d } in
+        let p : T (precedes (m ∷ older) i (m .id)) = rw (past-counts m older so s r all i (leb→le 1 (row d) t)) (le→leb (row d) (row d) (omega arith)) in
+        let l = (local-hist (m ∷ older) so) .0 .behind i (rw (local-precedes (m ∷ older) so i (m .id)) p) in
+        (prefix-le (ids older) (sound-counted older (so .1)) i l) .1
+    | inr t ↦ let k = nleb→lt 1 (row d) t in omega arith
+  ]
 
--- "by rows, the sum of the past row".
-pub reckoning-row : (n : ℕ) (m : Mark) (older : List Mark) → Sound (m ∷ older) → ((i : MarkId) → T (has i (ids older)) → (1 ≤ i .desk) × (i .desk ≤ n))
-    → reckoning (m ∷ older) (m .id) ≡ rowSum n (trace older (rowOf (m .stamp)))
-unfolding reckoning
-reckoning-row n m older s f = rw (nT→eq (precedes (m ∷ older) (m .id) (m .id)) alone) (ap length (keep-cong p q (ids older) agree)
-    ∙ sum-counts n r (ids older) (sound-counted older (s .1)) f ∙ sum-cong n (λ d. min (r d) (tally d (ids older))) r (λ d a b. let t = trace-tally m older s d in omega arith))
-  where
-    r : ℕ → ℕ
-    r = trace older (rowOf (m .stamp))
+  pub reckoning-row : ((i : MarkId) → T (has i (ids older)) → (1 ≤ i .desk) × (i .desk ≤ n)) → reckoning (m ∷ older) (m .id) ≡ rowSum n (λ d. max (s d) (under older s r d))
+  unfolding reckoning
+  reckoning-row f = rw (nT→eq (precedes (m ∷ older) (m .id) (m .id)) alone) (ap length (keep-cong p q (ids older) agree)
+      ∙ sum-counts n row (ids older) (sound-counted older (so .1)) f ∙ sum-cong n (λ d. min (row d) (tally d (ids older))) row (λ d a b. let t = row-tally d in omega arith))
+    where
+      p : MarkId → Bool
+      p a = precedes (m ∷ older) a (m .id)
 
-    p : MarkId → Bool
-    p a = precedes (m ∷ older) a (m .id)
+      q : MarkId → Bool
+      q a = leb (a .number) (row (a .desk))
 
-    q : MarkId → Bool
-    q a = leb (a .number) (r (a .desk))
+      agree : (a : MarkId) → T (has a (ids older)) → p a ≡ q a
+      agree a t = past-counts m older so s r all a ((prefix-le (ids older) (sound-counted older (so .1)) a t) .0)
 
-    agree : (a : MarkId) → T (has a (ids older)) → p a ≡ q a
-    agree a t = trace-counts m older s a ((prefix-le (ids older) (sound-counted older (s .1)) a t) .0)
-
-    alone : T (not (precedes (m ∷ older) (m .id) (m .id)))
-    alone = not-T (precedes (m ∷ older) (m .id) (m .id)) (precedes-self (m ∷ older) s (m .id))
-
--- A row that covers the tally is final: every older mark is then in the past.
-pub trace-final : (l : List Mark) → Sound l → (r : ℕ → ℕ) → ((d : ℕ) → tally d (ids l) ≤ r d) → (d : ℕ) → trace l r d ≡ r d
-trace-final [] s r f d = refl
-trace-final (m ∷ older) s r f d = go (leb (m .id .number) (r (m .id .desk))) (trace-final older (s .1) r′ (λ c. let a = less c in omega arith) d) (trace-final older (s .1) r less d)
-  where
-    r′ : ℕ → ℕ
-    r′ = λ d. max (r d) (rowOf (m .stamp) d)
-
-    less : (c : ℕ) → tally c (ids older) ≤ r c
-    less c = let a = tally-le c (m .id) (ids older) in let b = f c in omega arith
-
-    low : rowOf (m .stamp) d ≤ tally d (ids older)
-    low = elim (split (leb 1 (rowOf (m .stamp) d))) [
-      | inl t ↦
-          let x = row-find (m .stamp) d (rowOf (m .stamp) d) (leb→le 1 (rowOf (m .stamp) d) t) (omega arith) in
-          let y = (prefix-le (ids older) (sound-counted older (s .1)) (x .e) (s .0 .listed (x .e) (x .there))) .1 in
-          let y′ : x .e .number ≤ tally d (ids older) = subst (λ (k : ℕ). x .e .number ≤ tally k (ids older)) (x .desk) y in
-          let h = x .high in
-          omega arith
-      | inr t ↦ let k = nleb→lt 1 (rowOf (m .stamp) d) t in omega arith
-    ]
-
-    go : (b : Bool) → trace older r′ d ≡ r′ d → trace older r d ≡ r d → (elim b as (λ x. ℕ → ℕ) [ true ↦ trace older r′ | false ↦ trace older r ]) d ≡ r d
-    go true a b = let x = low in let y = less d in a ∙ (let z : max (r d) (rowOf (m .stamp) d) ≡ r d = omega arith in z)
-    go false a b = b
-
-pub under-final : (l : List Mark) → Sound l → (s r : ℕ → ℕ) → ((d : ℕ) → tally d (ids l) ≤ max (s d) (r d)) → (d : ℕ) → max (s d) (under l s r d) ≡ max (s d) (r d)
-under-final l so s r f d = under-trace l s r d ∙ trace-final l so (λ d. max (s d) (r d)) f d
+      alone : T (not (precedes (m ∷ older) (m .id) (m .id)))
+      alone = not-T (precedes (m ∷ older) (m .id) (m .id)) (precedes-self (m ∷ older) so (m .id))

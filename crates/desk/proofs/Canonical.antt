@@ -20,8 +20,9 @@ use Rattle.causality.specs.Meaning.{numbering, reception}
 use Rattle.causality.specs.State.{Mark, State, ids}
 use Rattle.causality.proofs.Logic.{split}
 use Rattle.causality.proofs.Refusals.{mark-refused, receive-refused}
-use Rattle.causality.proofs.RowLaws.{entriesOfRow, row-of-entries}
-use Rattle.causality.proofs.Rows.{rowOf}
+use Rattle.causality.proofs.RowLaws.{row-of-entries}
+use Rattle.causality.specs.Rows.{entriesOfRow}
+use Rattle.causality.specs.inner.Passes.{rowOf}
 use Rattle.causality.proofs.TableRows.{by-rows}
 use Rattle.rows.specs.View.{Carried, Slots, ZeroFrom, boxAt, carriedAt, markAt, pastFrom, rowAt, view, width}
 use Rattle.rows.proofs.Arrays.{view-length}

@@ -17,7 +17,8 @@ use Rattle.causality.proofs.Apart.{reaches}
 use Rattle.causality.proofs.Lists.{any-find}
 use Rattle.causality.proofs.Logic.{T→eq, and-fst, and-snd, nT→eq, or-cases, same-refl, same→eq, split}
 use Rattle.causality.proofs.Reach.{Sound, not-new, precedes-at}
-use Rattle.causality.proofs.RowLaws.{entriesOfRow, show, shown}
+use Rattle.causality.proofs.RowLaws.{show, shown}
+use Rattle.causality.specs.Rows.{entriesOfRow}
 use Rattle.rows.specs.View.{Carried, markAt, nameAt, rowAt, rowFn, view}
 use Rattle.rows.proofs.Arrays.{follows-below, sound-below}
 use Rattle.rows.proofs.Places.{has-at, ids-names, not-before, precedes-no-earlier, precedes-there}

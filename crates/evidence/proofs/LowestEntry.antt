@@ -12,7 +12,7 @@ use Rattle.frame.specs.Mark.{MarkId}
 use Rattle.causality.specs.Marks.{has, lower, lowest, same}
 use Rattle.causality.proofs.Lists.{has-self}
 use Rattle.causality.proofs.Logic.{or-inr, split}
-use Rattle.causality.proofs.RowLaws.{entriesFrom}
+use Rattle.causality.specs.Rows.{entriesFrom}
 
 -- Where no entry passes there is none.
 pub lowest-none : (P : MarkId → Bool) (es : List MarkId) → ((e : MarkId) → T (has e es) → P e ≡ false) → lowest (λ e. e) P es ≡ none

@@ -16,7 +16,8 @@ use Rattle.causality.proofs.Numbers.{Strict, heads-strict}
 use Rattle.causality.proofs.Past.{Standing}
 use Rattle.causality.proofs.Reach.{Sound, local, local-hist}
 use Rattle.causality.proofs.RowLaws.{row-entry}
-use Rattle.causality.proofs.Rows.{row-find, rowOf}
+use Rattle.causality.proofs.Rows.{row-find}
+use Rattle.causality.specs.inner.Passes.{rowOf}
 use Rattle.executed.specs.Rows.{struck, turned}
 
 pub eq→eqb : (a b : ℕ) → a ≡ b → T (eqb a b)

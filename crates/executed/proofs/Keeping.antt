@@ -14,7 +14,7 @@ use Rattle.causality.specs.State.{Mark, heads, ids}
 use Rattle.causality.proofs.Logic.{T→eq, nT→eq, split}
 use Rattle.causality.proofs.Numbers.{Strict}
 use Rattle.causality.proofs.Reach.{Sound}
-use Rattle.causality.proofs.Rows.{rowOf}
+use Rattle.causality.specs.inner.Passes.{rowOf}
 use Rattle.rows.specs.View.{ZeroFrom, width}
 use Rattle.executed.specs.Rows.{Chained, Rows, lastIn, turned}
 use Rattle.executed.proofs.HeadRow.{eq→eqb, head-row-step}

@@ -9,7 +9,7 @@ use Rattle.frame.specs.Mark.{MarkId}
 use Rattle.causality.specs.Marks.{places, has, same, tally}
 use Rattle.causality.specs.State.{Mark, heads, ids}
 use Rattle.causality.proofs.Past.{Counted}
-use Rattle.causality.proofs.Rows.{rowOf}
+use Rattle.causality.specs.inner.Passes.{rowOf}
 use Rattle.rows.specs.View.{Named, ZeroFrom, namesDown, width}
 
 -- The place of desk d's last mark, plus 1; 0 if it has none.

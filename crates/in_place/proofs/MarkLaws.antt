@@ -22,8 +22,8 @@ use Rattle.causality.proofs.Lists.{all-ids, all-map, tally-length}
 use Rattle.causality.proofs.Numbers.{heads-strict}
 use Rattle.causality.proofs.Past.{Standing, heads-has}
 use Rattle.causality.proofs.Reach.{Sound, local, local-hist, mark-sound}
-use Rattle.causality.proofs.RowLaws.{entriesOfRow}
-use Rattle.causality.proofs.Rows.{rowOf}
+use Rattle.causality.specs.Rows.{entriesOfRow}
+use Rattle.causality.specs.inner.Passes.{rowOf}
 use Rattle.rows.specs.View.{heldMark, pastFrom, rowFn, width}
 use Rattle.executed.specs.Arrays.{Arrays, Takes}
 use Rattle.waiting.specs.declared.Waiting.{Waiting}

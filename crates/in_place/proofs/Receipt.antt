@@ -15,7 +15,7 @@ use Rattle.frame.proofs.RoundTrip.{accepted}
 use Rattle.causality.specs.Calls.{FromCalls, Received, markIn, readMark, receive, receiveMark, received}
 use Rattle.causality.specs.Meaning.{reception}
 use Rattle.causality.proofs.Fit.{frame-fit}
-use Rattle.causality.proofs.Rows.{rowOf}
+use Rattle.causality.specs.inner.Passes.{rowOf}
 use Rattle.rows.specs.View.{heldMark, pastFrom, width}
 use Rattle.rows.proofs.ByRows.{row-entries}
 use Rattle.executed.specs.Arrays.{Arrays}

@@ -17,7 +17,8 @@ use Rattle.causality.specs.State.{Mark, ids, lacksPrevious, missing, missingEnt
 use Rattle.causality.proofs.Logic.{bool-ext, eq→T, split}
 use Rattle.causality.proofs.Missing.{ready-missing}
 use Rattle.causality.proofs.Past.{Counted, prefix-has, prefix-le}
-use Rattle.causality.proofs.RowLaws.{entriesFrom, entriesOfRow, show, shown}
+use Rattle.causality.proofs.RowLaws.{show, shown}
+use Rattle.causality.specs.Rows.{entriesFrom, entriesOfRow}
 use Rattle.rows.specs.View.{rowFn}
 use Rattle.predecessors.specs.Steps.{aboveIn, missingBy}
 use Rattle.rows.proofs.RowBytes.{entries-more, entryAt, entryIf}

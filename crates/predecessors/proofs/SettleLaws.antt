@@ -1,18 +1,17 @@
 -- The pass of the trace that stops where the rows are final: what they count, and the tally on the way down. Assumes nothing.
 use Prim.Native.Nat.{_+_, _-_, _<_, _≤_, max, suc, zero, ℕ}
 use lib.Dec.{eqb, eqb-refl, eqb→eq, leb, leb→le, nleb→lt, T-not}
-use lib.ListN.{getD, length, length-set, set}
+use lib.ListN.{getD, length-set, set}
 use lib.Seq.{getD-set-other, getD-set-same}
 use mathlib.Core.Bool.{Bool, _&&_, and-false, false, true}
-use mathlib.Core.List.{List, [], _∷_}
+use mathlib.Core.List.{List, []}
 use mathlib.Core.Logic.{inl, inr, ⊎-elim}
-use mathlib.Core.Path.{_∙_, _≡_, ap, refl, subst, sym}
+use mathlib.Core.Path.{_∙_, _≡_, refl, subst, sym}
 use native.Mathlib.Nat.{eq-or-lt-of-le}
-use native.Mathlib.Numerals.{add-one, sub-one}
+use native.Mathlib.Numerals.{add-one}
 use native.Mathlib.Omega.{arith}
-use Rattle.frame.specs.Mark.{MarkId}
 use Rattle.causality.specs.Marks.{tally}
-use Rattle.causality.proofs.Logic.{and-fst, and-snd, eq→T, split}
+use Rattle.causality.proofs.Logic.{and-fst, eq→T, split}
 use Rattle.causality.proofs.Past.{tally-same}
 use Rattle.causality.proofs.RowCounts.{tally-other}
 use Rattle.rows.specs.View.{Named, nameAt, namesDown, rowFn, width}

@@ -7,7 +7,7 @@ use lib.Dec.{eqb, leb, ltb}
 use lib.ListN.{length, getD, take}
 use Rattle.frame.specs.Mark.{MarkId}
 use Rattle.causality.specs.Marks.{tally}
-use Rattle.causality.proofs.RowLaws.{under}
+use Rattle.causality.specs.inner.Passes.{under}
 use Rattle.rows.specs.View.{Carried, width, rowFn, nameAt, view, someReached, namesDown}
 
 -- A row joined with row p of the stamps: at each desk the greater count.

@@ -14,7 +14,7 @@ use Rattle.causality.specs.State.{ids}
 use Rattle.causality.proofs.Logic.{eq→T, nT→eq, split}
 use Rattle.causality.proofs.Past.{prefix-le}
 use Rattle.causality.proofs.Reach.{Sound, sound-counted}
-use Rattle.causality.proofs.RowLaws.{under}
+use Rattle.causality.specs.inner.Passes.{under}
 use Rattle.rows.specs.View.{Carried, Named, namesDown, rowFn, view, width}
 use Rattle.rows.proofs.Arrays.{sound-below}
 use Rattle.rows.proofs.Places.{ids-names}

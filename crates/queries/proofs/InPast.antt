@@ -16,7 +16,8 @@ use Rattle.causality.proofs.Lists.{has-self}
 use Rattle.causality.proofs.Logic.{nT→eq, or-inr, split}
 use Rattle.causality.proofs.Past.{Counted, prefix-le}
 use Rattle.causality.proofs.Reach.{Sound, sound-counted}
-use Rattle.causality.proofs.RowLaws.{show, under, under-out, under-up}
+use Rattle.causality.proofs.RowLaws.{show, under-out, under-up}
+use Rattle.causality.specs.inner.Passes.{under}
 use Rattle.rows.specs.View.{Carried, Named, nameAt, namesDown, rowAt, rowFn, view}
 use Rattle.rows.proofs.Arrays.{follows-below, sound-below}
 use Rattle.rows.proofs.ByRows.{row-at}

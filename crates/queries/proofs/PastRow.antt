@@ -1,5 +1,5 @@
 -- The past of the mark at a place, as a row that is traced from the row of its stamp. n: how many desks. Assumes nothing.
-use Prim.Native.Nat.{_*_, _+_, _-_, _<_, _≤_, suc, ℕ}
+use Prim.Native.Nat.{_*_, _+_, _-_, _<_, _≤_, suc, ℕ, max}
 use lib.Dec.{leb, not-T}
 use lib.ListN.{getD}
 use mathlib.Core.Bool.{Bool, false}
@@ -9,12 +9,12 @@ use native.Mathlib.Omega.{arith}
 use Rattle.frame.specs.Mark.{MarkId}
 use Rattle.causality.specs.Marks.{has}
 use Rattle.causality.specs.State.{Mark, ids, precedes}
-use Rattle.causality.proofs.Apart.{trace-counts}
+use Rattle.causality.proofs.Apart.{past-counts}
 use Rattle.causality.proofs.Logic.{nT→eq}
 use Rattle.causality.proofs.Past.{prefix-le}
 use Rattle.causality.proofs.Reach.{Sound, sound-counted}
-use Rattle.causality.proofs.RowLaws.{row-of-entries, under, under-trace}
-use Rattle.causality.proofs.Rows.{rowOf, trace}
+use Rattle.causality.proofs.RowLaws.{row-of-entries}
+use Rattle.causality.specs.inner.Passes.{rowOf, under}
 use Rattle.rows.specs.View.{Carried, Named, markAt, nameAt, rowAt, rowFn, view}
 use Rattle.rows.proofs.Arrays.{sound-below}
 use Rattle.rows.proofs.ByRows.{under-cong}
@@ -29,7 +29,7 @@ module _ (n : ℕ) (ds ns : List ℕ) (bs : ℕ → Carried) (ss : List ℕ) whe
       → precedes (view n count ds ns bs ss) i ((markAt n ds ns bs ss p) .id) ≡ leb (i .number) (reached n ds ns bs ss p row (i .desk))
   unfolding view
   reached-counts count p h f s row er i lo hi pos =
-      precedes-there n ds ns bs ss count p s h i ∙ trace-counts (markAt n ds ns bs ss p) l (sound-below n count ds ns bs ss s (suc p) h) i pos ∙ ap (leb (i .number)) (sym traced)
+      precedes-there n ds ns bs ss count p s h i ∙ past-counts (markAt n ds ns bs ss p) l (sound-below n count ds ns bs ss s (suc p) h) (λ d. 0) r (λ d. no-row (r d)) i pos ∙ ap (leb (i .number)) (sym traced)
     where
       l : List Mark
       l = view n p ds ns bs ss
@@ -37,10 +37,10 @@ module _ (n : ℕ) (ds ns : List ℕ) (bs : ℕ → Carried) (ss : List ℕ) whe
       r : ℕ → ℕ
       r = rowOf ((markAt n ds ns bs ss p) .stamp)
 
-      traced : reached n ds ns bs ss p row (i .desk) ≡ trace l r (i .desk)
+      traced : reached n ds ns bs ss p row (i .desk) ≡ max 0 (under l (λ d. 0) r (i .desk))
       traced =
           under-cong n l (named-desks n p ds ns bs ss f) (λ d. 0) (λ d. 0) (rowFn row) r (λ d lo hi. refl) (λ d lo hi. er (d - 1) (omega arith) ∙ sym (row-of-entries n (rowAt n ss p) d lo hi)) (i .desk) lo hi
-          ∙ sym (no-row (under l (λ d. 0) r (i .desk))) ∙ under-trace l (λ d. 0) r (i .desk) ∙ (λ k. trace l (λ d. no-row (r d) k) (i .desk))
+          ∙ sym (no-row (under l (λ d. 0) r (i .desk)))
 
   -- Entries lead from the row of the mark at q to the mark at an earlier place if that mark precedes it.
   pub led : (count p q : ℕ) → p < q → q < count → Named n q ds → Sound (view n count ds ns bs ss) → (row : List ℕ) → ((j : ℕ) → j < n → getD row j 0 ≡ getD ss (q * n + j) 0) → (r : Bool)

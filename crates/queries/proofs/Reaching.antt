@@ -12,7 +12,8 @@ use Rattle.causality.specs.Marks.{has}
 use Rattle.causality.specs.State.{Mark, ids}
 use Rattle.causality.proofs.Logic.{nT→eq}
 use Rattle.causality.proofs.Reach.{Sound}
-use Rattle.causality.proofs.RowLaws.{under, under-out, under-up}
+use Rattle.causality.proofs.RowLaws.{under-out, under-up}
+use Rattle.causality.specs.inner.Passes.{under}
 use Rattle.rows.specs.View.{Carried, Named, rowFn, view}
 use Rattle.rows.proofs.Places.{has-more}
 use Rattle.rows.proofs.RowSteps.{named-desks, named-less, under-joined, under-passed, view-last}

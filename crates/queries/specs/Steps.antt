@@ -10,7 +10,7 @@ use Rattle.causality.specs.Evidence.{inPast}
 use Rattle.causality.specs.Marks.{has, tally}
 use Rattle.causality.specs.State.{ids, precedes}
 use Rattle.causality.proofs.Reach.{Sound}
-use Rattle.causality.proofs.RowLaws.{under}
+use Rattle.causality.specs.inner.Passes.{under}
 use Rattle.executed.specs.Rows.{Lent}
 use Rattle.rows.specs.View.{Carried, nameAt, namesDown, rowAt, rowFn, view, width}
 use Rattle.queries.specs.declared.first_apart.Searched.{Searched}

@@ -1,4 +1,4 @@
--- What the row tests of the code say of the definitions: ready, false stamps, stamps of rows, precedence. n: how many desks. Assumes nothing.
+-- What the row tests of the code say of the definitions: ready, false stamps, stamps of rows. n: how many desks. Assumes nothing.
 use Prim.Native.Nat.{_+_, _-_, _<_, _≤_, max, suc, zero, ℕ}
 use lib.Dec.{T, leb, leb→le, le→leb, ltb, ltb→lt, lt→ltb, nleb→lt}
 use lib.ListN.{getD}
@@ -12,13 +12,14 @@ use Rattle.frame.specs.declared.MarkBox.{MarkBox}
 use Rattle.frame.specs.declared.Past.{Past}
 use Rattle.frame.specs.Mark.{MarkId}
 use Rattle.causality.specs.Marks.{All, any, has}
-use Rattle.causality.specs.State.{Mark, falseEntries, ids, precedes, previous, ready}
+use Rattle.causality.specs.State.{Mark, falseEntries, ready}
 use Rattle.causality.proofs.Lists.{any-find, any-of}
 use Rattle.causality.proofs.Logic.{and-fst, and-intro, and-snd, bool-ext, or-cases, or-inl, or-inr, split}
 use Rattle.causality.proofs.Numbers.{Strict}
-use Rattle.causality.proofs.Reach.{Follows, Sound}
-use Rattle.causality.proofs.RowLaws.{entries-of-row, entries-strict, entriesFrom, entriesOfRow, false-by-rows, row-of-entries, show, shown, trace-precedes, under, under-trace}
-use Rattle.causality.proofs.Rows.{rowOf, trace}
+use Rattle.causality.proofs.Reach.{Sound}
+use Rattle.causality.proofs.RowLaws.{entries-of-row, false-by-rows, row-of-entries, show, shown}
+use Rattle.causality.specs.Rows.{entriesFrom, entriesOfRow}
+use Rattle.causality.specs.inner.Passes.{rowOf, under}
 use Rattle.rows.specs.View.{rowFn, someReached}
 
 -- A row that is known count by count.
@@ -144,7 +145,7 @@ pub false-by-row : (n : ℕ) (l : List Mark) → Sound l → All (λ m. (1 ≤ m
     → falseEntries l (record { id = i; extent = b; stamp = entriesOfRow n (rowFn row); past = said })
     ≡ (someReached n row below || (ltb 1 (i .number) && ltb (max (rowFn row (i .desk)) (rowFn below (i .desk))) (i .number - 1)))
 false-by-row n l s ds row below f i b said lo hi f′ t =
-    false-by-rows l s (record { id = i; extent = b; stamp = es; past = said }) (entries-strict (rowFn row) 1 n) (λ e te. shown (rowFn row) 1 n e te .pos) t
+    false-by-rows l s (record { id = i; extent = b; stamp = es; past = said }) (λ e te. shown (rowFn row) 1 n e te .pos) t
     ∙ (let a = some-reached n row below u (λ d p q w. f d p q w ∙ ap (leb (rowFn row d)) (g d p q)) in λ k. a k || second k)
   where
     es : List MarkId
@@ -166,32 +167,6 @@ false-by-row n l s ds row below f i b said lo hi f′ t =
     second : (ltb 1 m && ltb (max (rowOf es (i .desk)) (u (i .desk))) (m - 1)) ≡ (ltb 1 m && ltb (max (rowFn row (i .desk)) (rowFn below (i .desk))) (m - 1))
     second = and-cong (ltb 1 m) (ltb (max (rowOf es (i .desk)) (u (i .desk))) (m - 1)) (ltb (max (rowFn row (i .desk)) (rowFn below (i .desk))) (m - 1))
         (λ v. let c = row-of-entries n (rowFn row) (i .desk) lo hi in let e = sym (g (i .desk) lo hi) in (λ k. ltb (max (c k) (e k)) (m - 1)) ∙ sym (f′ (ltb→lt 1 m v)))
-
--- PRECEDENCE
-
--- Of a mark m in front of older ones, by the row of its stamp and what is under it.
-pub precedes-by-row : (n : ℕ) (l : List Mark) → Sound l → All (λ m. (1 ≤ m .id .desk) × (m .id .desk ≤ n)) l → (row below : List ℕ)
-    → ((d : ℕ) → 1 ≤ d → d ≤ n → rowFn below d ≡ under l (rowFn row) (λ d. 0) d) → (m : Mark) → m .stamp ≡ entriesOfRow n (rowFn row) → Follows m l
-    → (a : MarkId) → T (has a (ids l)) → 1 ≤ a .desk → a .desk ≤ n
-    → precedes (m ∷ l) a (m .id) ≡ leb (a .number) (max (rowFn row (a .desk)) (rowFn below (a .desk)))
-precedes-by-row n l s ds row below f m e fo a ta lo hi =
-    sym (trace-precedes l s m fo a ta) ∙ ap (leb (a .number)) (sym (under-trace l (rowOf (m .stamp)) (λ d. 0) (a .desk) ∙ no-more) ∙ (λ i. max (c i) (g i)))
-  where
-    es : List MarkId
-    es = entriesOfRow n (rowFn row)
-
-    max-zero : (k : ℕ) → max k 0 ≡ k
-    max-zero k = omega arith
-
-    no-more : trace l (λ d. max (rowOf (m .stamp) d) 0) (a .desk) ≡ trace l (rowOf (m .stamp)) (a .desk)
-    no-more = λ i. trace l (λ d. max-zero (rowOf (m .stamp) d) i) (a .desk)
-
-    c : rowOf (m .stamp) (a .desk) ≡ rowFn row (a .desk)
-    c = ap (λ (x : List MarkId). rowOf x (a .desk)) e ∙ row-of-entries n (rowFn row) (a .desk) lo hi
-
-    g : under l (rowOf (m .stamp)) (λ d. 0) (a .desk) ≡ rowFn below (a .desk)
-    g = ap (λ (x : List MarkId). under l (rowOf x) (λ d. 0) (a .desk)) e
-        ∙ under-cong n l ds (rowOf es) (rowFn row) (λ d. 0) (λ d. 0) (row-of-entries n (rowFn row)) (λ d p q. refl) (a .desk) lo hi ∙ sym (f (a .desk) lo hi)
 
 -- STAMPS OF ROWS
 

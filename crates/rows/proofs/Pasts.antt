@@ -1,6 +1,6 @@
 -- Pasts as numbers: 0 says nothing, every other number says one less. Assumes nothing.
 use Prim.Native.Nat.{_+_, _-_, suc, zero, ℕ}
-use mathlib.Core.Path.{_≡_, ap, refl, sym}
+use mathlib.Core.Path.{_≡_, ap, refl}
 use native.Mathlib.Numerals.{add-one, sub-one}
 use Rattle.frame.specs.declared.Past.the-variants.{Said}
 use Rattle.rows.specs.View.{pastFrom}

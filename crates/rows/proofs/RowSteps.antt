@@ -13,8 +13,9 @@ use native.Mathlib.Numerals.{add-one, sub-one}
 use native.Mathlib.Omega.{arith}
 use Rattle.causality.specs.Marks.{All}
 use Rattle.causality.specs.State.{Mark}
-use Rattle.causality.proofs.Rows.{rowOf}
-use Rattle.causality.proofs.RowLaws.{entriesOfRow, row-of-entries, under}
+use Rattle.causality.specs.inner.Passes.{rowOf, under}
+use Rattle.causality.proofs.RowLaws.{row-of-entries}
+use Rattle.causality.specs.Rows.{entriesOfRow}
 use Rattle.rows.specs.View.{Carried, Named, markAt, rowAt, rowFn, someReached, view}
 use Rattle.rows.proofs.ByRows.{row-at, under-cong}
 

@@ -10,11 +10,11 @@ use native.Mathlib.Numerals.{add-one}
 use native.Mathlib.Omega.{arith}
 use Rattle.frame.specs.Mark.{MarkId}
 use Rattle.frame.specs.declared.MarkBox.{MarkBox}
-use Rattle.causality.proofs.RowLaws.{entriesOfRow}
+use Rattle.causality.specs.Rows.{entriesOfRow}
 use Rattle.rows.specs.declared.Held.{Held}
 use Rattle.rows.specs.Steps.{HasSlot, Stored}
 use Rattle.rows.specs.View.{Carried, SameOutside, Slots, ZeroFrom, boxAt, carriedAt, heldId, heldMark, markAt, pastFrom, rowAt, rowFn, view, width}
-use Rattle.rows.proofs.Arrays.{SameBelow, view-push}
+use Rattle.rows.proofs.Arrays.{view-push}
 use Rattle.rows.proofs.ByRows.{entries-cong}
 use Rattle.rows.proofs.Stores.{boxes-below, outside-none, outside-set, zero-after}
 

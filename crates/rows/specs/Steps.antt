@@ -4,7 +4,7 @@ use mathlib.Core.List.{List}
 use Prim.Native.Nat.{ℕ, _+_, _*_, _≤_, _<_}
 use lib.ListN.{length, getD, set, take}
 use Rattle.frame.specs.Frame.{entryBytes}
-use Rattle.causality.proofs.RowLaws.{entriesOfRow}
+use Rattle.causality.specs.Rows.{entriesOfRow}
 use Rattle.rows.specs.declared.Held.{Held}
 use Rattle.rows.specs.View.{width, rowFn, boxAt, SameOutside}
 

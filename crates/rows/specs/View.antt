@@ -12,7 +12,7 @@ use Rattle.frame.specs.declared.MarkBox.{MarkBox}
 use Rattle.frame.specs.declared.Past.{Past}
 use Rattle.frame.specs.declared.Past.the-variants.{Unsaid, Said}
 use Rattle.causality.specs.State.{Mark}
-use Rattle.causality.proofs.RowLaws.{entriesOfRow}
+use Rattle.causality.specs.Rows.{entriesOfRow}
 use Rattle.rows.specs.declared.Held.{Held}
 
 -- How many counts a row has: one for each desk.

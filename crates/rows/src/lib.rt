@@ -5,7 +5,7 @@ ghost use lib.ListN.{length, getD};
 ghost use mathlib.Core.Bool.{false};
 ghost use Rattle.frame.specs.Frame.{entriesOf, pastBad};
 ghost use Rattle.frame.specs.declared.MarkBox.{MarkBox};
-ghost use Rattle.causality.proofs.Rows.{rowOf};
+ghost use Rattle.causality.specs.inner.Passes.{rowOf};
 ghost use Rattle.rows.specs.View.{width, rowFn, markAt, heldMark, heldWith, sameCounts, boxAt, carriedAt, pastFrom, SameOutside};
 ghost use Rattle.rows.specs.Steps.{EntriesIn, HasSlot, Stored};
 use frame::DESKS;

@@ -1,9 +1,9 @@
 -- What the tests of Receive and the row functions found, in the definitions' terms. n: how many desks. Assumes nothing.
-use Prim.Native.Nat.{_*_, _+_, _-_, _<_, _≤_, max, suc, zero, ℕ}
+use Prim.Native.Nat.{_+_, _-_, _<_, _≤_, max, suc, zero, ℕ}
 use lib.Dec.{T, T-not, eqb, eqb→eq, leb, leb→le, le→leb, ltb, ltb→lt, lt→ltb, nleb→lt, not-T}
 use lib.ListN.{getD, replicate, set, take}
 use lib.Seq.{getD-set-other}
-use mathlib.Core.Bool.{Bool, _&&_, _||_, false, not, true}
+use mathlib.Core.Bool.{Bool, _&&_, _||_, false, true}
 use mathlib.Core.List.{List, [], _∷_}
 use mathlib.Core.Logic.{inl, inr}
 use mathlib.Core.Path.{_∙_, _≡_, ap, refl, subst, sym}
@@ -20,9 +20,10 @@ use Rattle.causality.proofs.Lists.{all-map}
 use Rattle.causality.proofs.Logic.{and-fst, and-intro, and-snd, bool-ext, eq→T, nT→eq, split}
 use Rattle.causality.proofs.Past.{prefix-has, prefix-le}
 use Rattle.causality.proofs.Reach.{Follows, Sound, follows-of, reckoning-le, sound-counted}
-use Rattle.causality.proofs.RowCounts.{reckoning-row, rowSum, sum-cong, tally-other, under-final}
-use Rattle.causality.proofs.RowLaws.{entriesOfRow, row-of-entries, under, under-out, under-trace}
-use Rattle.causality.proofs.Rows.{rowOf, trace}
+use Rattle.causality.proofs.RowCounts.{reckoning-row, rowSum, sum-cong, tally-other}
+use Rattle.causality.proofs.RowLaws.{row-of-entries, under-out, under-final}
+use Rattle.causality.specs.Rows.{entriesOfRow}
+use Rattle.causality.specs.inner.Passes.{rowOf, under}
 use Rattle.rows.specs.View.{Carried, Named, namesDown, pastFrom, rowFn, someReached, view}
 use Rattle.rows.proofs.Slots.{zeros}
 use Rattle.rows.proofs.Arrays.{sound-below, view-length}
@@ -31,15 +32,6 @@ use Rattle.rows.proofs.Places.{has-more, ids-names, named-has}
 use Rattle.rows.proofs.RowSteps.{named-desks, named-less, pass-rest}
 use Rattle.predecessors.specs.Steps.{greaterSum}
 use Rattle.verdict.specs.Judgement.{pastKept}
-
--- Two tests of which the first failed, or passed.
-pub first-failed : (x a b : Bool) → x ≡ a → not x ≡ true → false ≡ (a && b)
-first-failed true a b e f = let z : _≡_ {A = ℕ} 0 1 = cc in absurd (omega arith)
-first-failed false a b e f = rw (← e) refl
-
-pub first-passed : (x y a b : Bool) → x ≡ a → not x ≡ false → y ≡ b → y ≡ (a && b)
-first-passed true y a b e f g = rw (← e) g
-first-passed false y a b e f g = let z : _≡_ {A = ℕ} 0 1 = cc in absurd (omega arith)
 
 -- Of two tests of which one is enough, the first failed: the second tells.
 pub second-tells : (x a b : Bool) → a ≡ false → x ≡ b → x ≡ (a || b)
@@ -200,17 +192,16 @@ module _ (n count to : ℕ) (ds ns : List ℕ) (bs : ℕ → Carried) (ss : List
       abbrev es : List MarkId
       es = entriesOfRow n (rowFn row)
 
-      settled : (d : ℕ) → 1 ≤ d → d ≤ n → trace l (rowOf es) d ≡ max (rowFn row d) (rowFn below d)
+      settled : (d : ℕ) → 1 ≤ d → d ≤ n → max (rowOf es d) (under l (rowOf es) (λ d. 0) d) ≡ max (rowFn row d) (rowFn below d)
       settled d p q =
           let c = row-of-entries n (rowFn row) d p q in
           let u = under-cong n l named-all (rowOf es) (rowFn row) (λ d. 0) (λ d. 0) (row-of-entries n (rowFn row)) (λ d p q. refl) d p q ∙ sym (rest d p q) in
-          let w : (k : ℕ) → max k 0 ≡ k = λ k. omega arith in
-          sym ((λ j. trace l (λ d. w (rowOf es d) j) d)) ∙ sym (under-trace l (rowOf es) (λ d. 0) d) ∙ (λ j. max (c j) (u j)) ∙ under-final first so (rowFn row) (rowFn below) covers-all d
+          (λ j. max (c j) (u j)) ∙ under-final first so (rowFn row) (rowFn below) d (covers-all d)
 
       pub reckoned-found : 1 ≤ i .number → has i (ids l) ≡ false → T (ready l (mark said)) → falseEntries l (mark said) ≡ false
           → greaterSum n row below ≡ reckoning (mark said ∷ l) i
       unfolding ready falseStamp falseEntries reckoning
-      reckoned-found pos new t e = sym (reckoning-row n (reckoned l (mark Unsaid)) l (follows, s) (λ j u. named-has n ds ns bs ss count f j u) ∙ sum-cong n (trace l (rowOf es)) _ settled ∙ row-sum n row below)
+      reckoned-found pos new t e = sym (reckoning-row n (reckoned l (mark Unsaid)) l (follows, s) (rowOf es) (λ d. 0) (λ d. omega arith) (λ j u. named-has n ds ns bs ss count f j u) ∙ sum-cong n _ _ settled ∙ row-sum n row below)
         where
           follows : Follows (reckoned l (mark Unsaid)) l
           follows = follows-of l (mark Unsaid) s pos (rw new tt) t (rw e refl)

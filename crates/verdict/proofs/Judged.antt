@@ -13,8 +13,9 @@ use Rattle.causality.specs.State.{State, ids, sameCount}
 use Rattle.causality.proofs.Fit.{entries-same, same-entries}
 use Rattle.causality.proofs.Lists.{any-find, any-of}
 use Rattle.causality.proofs.Logic.{and-fst, and-intro, and-snd, bool-ext, eq→T, split}
-use Rattle.causality.proofs.RowLaws.{entriesOfRow, row-of-entries, show, shown}
-use Rattle.causality.proofs.Rows.{rowOf}
+use Rattle.causality.proofs.RowLaws.{row-of-entries, show, shown}
+use Rattle.causality.specs.Rows.{entriesOfRow}
+use Rattle.causality.specs.inner.Passes.{rowOf}
 use Rattle.rows.specs.View.{heldMark, pastFrom, rowFn, sameCounts, width}
 use Rattle.rows.specs.declared.Held.{Held}
 use Rattle.rows.proofs.ByRows.{entries-cong}

@@ -4,7 +4,7 @@ use mathlib.Core.Path.{_∙_, ap}
 use Prim.Native.Nat.{suc, ℕ}
 use borrow.Author.Needs.{needs}
 use Rattle.frame.specs.Frame.{entriesOf}
-use Rattle.causality.proofs.Rows.{rowOf}
+use Rattle.causality.specs.inner.Passes.{rowOf}
 use Rattle.in_place.proofs.Receipt.{made-mark, read-past}
 use Rattle.in_place.proofs.receive.mark_in.Statement.{statement}
 use Rattle.in_place.proofs.receive.mark_in.Tie as tie

@@ -1,0 +1,2 @@
+-- The modules of definitions that need not be believed.
+pub mod Passes
