@@ -99,8 +99,11 @@ sameCount (Said a) (Said b) = eqb a b
 unfoldable pub falseStamp : List Mark → Mark → Bool
 falseStamp executed m = falseEntries executed m || not (sameCount (m .past) (Said (reckoning (m ∷ executed) (m .id))))
 
--- Definition 2, of executed marks: a precedes b directly if it precedes b and precedes no mark that precedes b. Definition 4: the direct
--- causal vector of b has just the marks that precede it directly.
-pub record PrecedesDirectly (executed : List Mark) (a b : MarkId) : Type 0 where
-  pub precede : T (precedes executed a b)
-  pub none-between : (x : MarkId) → T (precedes executed a x) → T (precedes executed x b) → ⊥
+-- Definition 2, of what is taken for precedence: a precedes b directly if it precedes b and precedes no mark that precedes b.
+pub record Directly (before : MarkId → MarkId → Type 0) (a b : MarkId) : Type 0 where
+  pub precede : before a b
+  pub none-between : (x : MarkId) → before a x → before x b → ⊥
+
+-- Of executed marks, at one desk. Definition 4: the direct causal vector of b has just the marks that precede it directly.
+abbrev pub PrecedesDirectly : List Mark → MarkId → MarkId → Type 0
+PrecedesDirectly executed = Directly (λ a b. T (precedes executed a b))

@@ -26,7 +26,7 @@ use Rattle.history.proofs.Simulation.{Inv, Recorded, Registered, Within
 abbrev pub AtDesks : ℕ → List Step → Type 0
 AtDesks N s = All (λ t. T (atDesk N t)) s
 
-recorded-all : {A B : Type 0} (P : B → Type 0) (a : Answer A) (x : B) (xs : List B) → All P (recorded a x xs) → All P xs
+pub recorded-all : {A B : Type 0} (P : B → Type 0) (a : Answer A) (x : B) (xs : List B) → All P (recorded a x xs) → All P xs
 recorded-all P (gives n) x xs p = p .1
 recorded-all P (refused c) x xs p = p
 
@@ -54,7 +54,7 @@ first-made N w i k lent = go (frameAt markId i k (w .frames))
     go none = refl
     go (some m) = refl
 
-hand-hist : (h : History) (d : ℕ) (i : MarkId) → (plainStep h (handOverAt d i)) .made ≡ h .made
+pub hand-hist : (h : History) (d : ℕ) (i : MarkId) → (plainStep h (handOverAt d i)) .made ≡ h .made
 hand-hist h d i = go (find madeId i (h .made))
   where
     go : (o : Option MadeMark) → (elim o as (λ x. History) [

@@ -105,7 +105,7 @@ mark-writes N sd st b lent x k = go (mark-cases (local (st .executed)) (λ m. Un
 
 -- THE CLAIM
 
-all-back : {A : Type 0} (P : A → Type 0) (xs ys : List A) → All P (xs ++ ys) → All P ys
+pub all-back : {A : Type 0} (P : A → Type 0) (xs ys : List A) → All P (xs ++ ys) → All P ys
 all-back P [] ys a = a
 all-back P (x ∷ xs) ys a = all-back P xs ys (a .1)
 

@@ -192,7 +192,7 @@ module _ (N : ℕ) (some-desk : 1 ≤ N) (s : List Step) (at : AtDesks N s) wher
         relates = relate-same ((plainOf s) .made) st (listsAt (plainOf s) d) (inv .lists d) (inv .ok d .hist);
       }
 
-  frames-all : (P : Written → Type 0) (ms : List Mark) → All (λ m. P (framed N some-desk m)) ms → All P (map (framed N some-desk) ms)
+  pub frames-all : (P : Written → Type 0) (ms : List Mark) → All (λ m. P (framed N some-desk m)) ms → All P (map (framed N some-desk) ms)
   frames-all P [] a = tt
   frames-all P (m ∷ ms) a = (a .0, frames-all P ms (a .1))
 
