@@ -21,7 +21,7 @@ use Rattle.causality.proofs.Logic.{and-fst, and-intro, and-snd, or-cases, or-in
 use Rattle.causality.proofs.Numbers.{Strict}
 use Rattle.causality.proofs.Past.{Good, Standing, behind-all, counted, precedes-past, prefix-has, ready-past, ready-stands}
 use Rattle.history.specs.Evidence.{happenedBefore}
-use Rattle.history.specs.Paper.{Apart, Chain, IsReady, IsVector, Links, MadeAt, Paper, PaperAt, Precedes, RisingDesks, Traced, Uninterrupted, executed, generated, link, onward, through}
+use Rattle.history.specs.Paper.{Apart, Chain, IsReady, IsVector, Links, MadeAt, Paper, PaperAt, Precedes, RisingDesks, Traced, TracedWith, Uninterrupted, executed-before, generated-before, link, onward, through}
 use Rattle.history.specs.Plain.{DeskLists, MadeMark, frameSize, lastOfPast, leaveOut, listsAt, listsFull, madeIds, making, newMade, pastOf, recorded}
 use Rattle.history.specs.Run.{Step, atDesk, handing, marking, run, toFirst, toSecond}
 use Rattle.history.specs.Silent.{listedAt}
@@ -31,6 +31,13 @@ use Rattle.history.proofs.Sequence.{AtDesks, InvAt, framed, hand-hist, 
 use Rattle.history.proofs.Silent.{all-back}
 use Rattle.history.proofs.Simulation.{Recorded}
 use Rattle.history.proofs.Theorem.{at-desk, demand3, frames-all, some-desk}
+
+-- The names of the marks made in s, and their pasts.
+abbrev madeIn : List Step → List MarkId
+madeIn s = madeIds (plainOf s .made)
+
+abbrev pastIn : List Step → MarkId → List MarkId
+pastIn s = pastOf (plainOf s .made)
 
 -- GENERATION: the markings of a sequence and the marks made
 
@@ -63,7 +70,7 @@ moment-on : (t : Step) (s : List Step) (b : MarkId) → Moment s b → Moment (t
 moment-on t s b (moment, g) = (moment, record { later = t ∷ g .later; box = g .box; lent = g .lent; steps = ap (λ (r : List Step). t ∷ r) (g .steps); size = g .size; gave = g .gave })
 
 -- Each mark made has a moment.
-moment-of : (s : List Step) (b : MarkId) → T (has b (madeIds (plainOf s .made))) → Moment s b
+moment-of : (s : List Step) (b : MarkId) → T (has b (madeIn s)) → Moment s b
 unfolding newMade
 moment-of [] b t = absurd t
 moment-of (handing d i k ∷ s) b t = moment-on (handing d i k) s b (moment-of s b (rw (hand-hist (plainOf s) d i) at t))
@@ -88,37 +95,35 @@ moment-of (marking d box lent ∷ s) b t = go (making d ls box (length lent) .an
     )
 
     go : (a : Answer Numbered) → making d ls box (length lent) .answer ≡ a → T (has b (madeIds (recorded a (newMade d ls box) (plainOf s .made))))
-        → (T (has b (madeIds (plainOf s .made))) → Moment s b) → Moment (marking d box lent ∷ s) b
+        → (T (has b (madeIn s)) → Moment s b) → Moment (marking d box lent ∷ s) b
     go (refused c) e t ih = moment-on (marking d box lent) s b (ih t)
-    go (gives n) e t ih = elim (or-cases (same b (newMade d ls box .id)) (has b (madeIds (plainOf s .made))) t) [
+    go (gives n) e t ih = elim (or-cases (same b (newMade d ls box .id)) (has b (madeIn s)) t) [
       | inl q ↦ subst (Moment (marking d box lent ∷ s)) (sym (same→eq b (newMade d ls box .id) q)) (here n e)
       | inr q ↦ moment-on (marking d box lent) s b (ih q)
     ]
 
--- A mark that has a moment is made.
-made-on : (later s : List Step) (b : MarkId) → T (has b (madeIds (plainOf s .made))) → T (has b (madeIds (plainOf (later ++ s) .made)))
-made-on [] s b t = t
-made-on (handing d i k ∷ later) s b t = rw (hand-hist (plainOf (later ++ s)) d i) (made-on later s b t)
-made-on (toSecond d i k lent ∷ later) s b t = made-on later s b t
-made-on (toFirst i k lent ∷ later) s b t = made-on later s b t
-made-on (marking d box lent ∷ later) s b t = go (making d (listsAt (plainOf (later ++ s)) d) box (length lent) .answer) (made-on later s b t)
-  where
-    x : MadeMark
-    x = newMade d (listsAt (plainOf (later ++ s)) d) box
+-- The mark made at a moment: its name, and what holds of every mark made holds of it.
+abbrev markAt : {s moment : List Step} {b : MarkId} → MadeAt s moment b → MadeMark
+markAt {s} {moment} {b} g = newMade (b .desk) (listsAt (plainOf moment) (b .desk)) (g .box)
 
-    go : (a : Answer Numbered) → T (has b (madeIds (plainOf (later ++ s) .made))) → T (has b (madeIds (recorded a x (plainOf (later ++ s) .made))))
-    go (refused c) t = t
-    go (gives n) t = or-inr (same b (x .id)) (has b (madeIds (plainOf (later ++ s) .made))) t
-
-made-name : {s moment : List Step} {b : MarkId} (g : MadeAt s moment b) → newMade (b .desk) (listsAt (plainOf moment) (b .desk)) (g .box) .id ≡ b
+made-name : {s moment : List Step} {b : MarkId} (g : MadeAt s moment b) → markAt g .id ≡ b
 unfolding newMade
 made-name {s} {moment} {b} g =
     let e = making-number (b .desk) (listsAt (plainOf moment) (b .desk)) (g .box) (length (g .lent)) (record { number = b .number; size = g .size }) (g .gave) in
     λ i. record { desk = b .desk; number = sym e i }
 
-made-at : {s moment : List Step} {b : MarkId} → MadeAt s moment b → T (has b (madeIds (plainOf s .made)))
-made-at {s} {moment} {b} g = subst (λ (r : List Step). T (has b (madeIds (plainOf r .made)))) (sym (g .steps)) (made-on (g .later) (marking (b .desk) (g .box) (g .lent) ∷ moment) b
-    (rw (g .gave) (subst (λ (i : MarkId). T (has i (newMade (b .desk) (listsAt (plainOf moment) (b .desk)) (g .box) .id ∷ madeIds (plainOf moment .made)))) (made-name g) (has-self _ (madeIds (plainOf moment .made))))))
+of-moment : (P : MadeMark → Type 0) {s moment : List Step} {b : MarkId} (g : MadeAt s moment b) → All P (plainOf s .made) → P (markAt g)
+of-moment P {s} {moment} {b} g a =
+    let at : All P (recorded (making (b .desk) (listsAt (plainOf moment) (b .desk)) (g .box) (length (g .lent)) .answer) (markAt g) (plainOf moment .made))
+    = made-back P (g .later) (marking (b .desk) (g .box) (g .lent) ∷ moment) (subst (λ (r : List Step). All P (plainOf r .made)) (g .steps) a) in
+    (rw (g .gave) at at) .0
+
+each-self : (xs : List MadeMark) → All (λ x. T (has (x .id) (madeIds xs))) xs
+each-self [] = tt
+each-self (x ∷ xs) = (has-self (x .id) (madeIds xs), all-map (λ y t. or-inr (same (y .id) (x .id)) (has (y .id) (madeIds xs)) t) xs (each-self xs))
+
+made-at : {s moment : List Step} {b : MarkId} → MadeAt s moment b → T (has b (madeIn s))
+made-at {s} g = subst (λ (i : MarkId). T (has i (madeIn s))) (made-name g) (of-moment (λ x. T (has (x .id) (madeIn s))) g (each-self (plainOf s .made)))
 
 -- A mark with a past is made.
 past-made : (xs : List MadeMark) (a b : MarkId) → T (has a (pastOf xs b)) → T (has b (madeIds xs))
@@ -146,7 +151,7 @@ module _ (N : ℕ) (sd : 1 ≤ N) (s : List Step) (at : AtDesks N s) where
   inv : InvAt N sd s
   inv = inv-of N sd s at
 
-  names : madeIds (plainOf s .made) ≡ ids (w .made)
+  names : madeIn s ≡ ids (w .made)
   names = ap madeIds (inv .hist) ∙ made-ids past (w .made)
 
   listed-ids : (d : ℕ) → listedAt s d ≡ ids ((markStateAt N w d) .executed)
@@ -157,7 +162,7 @@ module _ (N : ℕ) (sd : 1 ≤ N) (s : List Step) (at : AtDesks N s) where
     name : m .id ≡ b
     rec : Recorded N sd past (registerAt N sd s) w m
 
-  mark-of : (b : MarkId) → T (has b (madeIds (plainOf s .made))) → MarkOf b
+  mark-of : (b : MarkId) → T (has b (madeIn s)) → MarkOf b
   mark-of b t = go (find markId b (w .made)) refl
     where
       go : (o : Option Mark) → find markId b (w .made) ≡ o → MarkOf b
@@ -167,17 +172,17 @@ module _ (N : ℕ) (sd : 1 ≤ N) (s : List Step) (at : AtDesks N s) where
           record { m = m; name = sym (same→eq b (m .id) (p .1)); rec = p .0 }
 
   -- A mark made is listed at its own desk, and a listed one is made.
-  own-executed : (b : MarkId) → T (has b (madeIds (plainOf s .made))) → T (has b (ids ((markStateAt N w (b .desk)) .executed)))
+  own-executed : (b : MarkId) → T (has b (madeIn s)) → T (has b (ids ((markStateAt N w (b .desk)) .executed)))
   own-executed b t =
       let x = mark-of b t in
       let l = (markStateAt N w (x .m .id .desk)) .executed in
       subst (λ (i : MarkId). T (has i (ids ((markStateAt N w (i .desk)) .executed)))) (x .name)
       (prefix-has (ids l) (counted past l (inv .ok (x .m .id .desk) .hist)) (x .m .id) (x .rec .good .pos) (x .rec .k .within))
 
-  own-listed : (b : MarkId) → T (has b (madeIds (plainOf s .made))) → T (has b (listedAt s (b .desk)))
+  own-listed : (b : MarkId) → T (has b (madeIn s)) → T (has b (listedAt s (b .desk)))
   own-listed b t = rw (listed-ids (b .desk)) (own-executed b t)
 
-  listed-made : (d : ℕ) (a : MarkId) → T (has a (listedAt s d)) → T (has a (madeIds (plainOf s .made)))
+  listed-made : (d : ℕ) (a : MarkId) → T (has a (listedAt s d)) → T (has a (madeIn s))
   listed-made d a t =
       let l = (markStateAt N w d) .executed in
       rw names (rw (find-has a (w .made)) (all-ids (λ i. T (isSome (registerAt N sd s i))) l (all-map (λ m k. rw (k .registered) tt) l (inv .ok d .ks)) a (rw (listed-ids d) at t)))
@@ -190,17 +195,7 @@ module _ (N : ℕ) (sd : 1 ≤ N) (s : List Step) (at : AtDesks N s) where
   -- "its past is the desk's list".
   past-listed : {moment : List Step} {b : MarkId} → MadeAt s moment b → past b ≡ listedAt moment (b .desk)
   unfolding newMade
-  past-listed {moment} {b} g = ap past (sym (made-name g)) ∙ (rw (g .gave) at before) .0
-    where
-      P : MadeMark → Type 0
-      P x = past (x .id) ≡ x .past
-
-      ls : DeskLists
-      ls = listsAt (plainOf moment) (b .desk)
-
-      before : All P (recorded (making (b .desk) ls (g .box) (length (g .lent)) .answer) (newMade (b .desk) ls (g .box)) (plainOf moment .made))
-      before = made-back P (g .later) (marking (b .desk) (g .box) (g .lent) ∷ moment)
-          (subst (λ (r : List Step). All P (plainOf r .made)) (g .steps) (subst (λ (ys : List MadeMark). All P ys) (sym (inv .hist)) (each-past (w .made))))
+  past-listed g = ap past (sym (made-name g)) ∙ of-moment (λ x. past (x .id) ≡ x .past) g (subst (λ (ys : List MadeMark). All (λ x. past (x .id) ≡ x .past) ys) (sym (inv .hist)) (each-past (w .made)))
 
 -- What holds of every name of a list holds of each.
 all-has : (P : MarkId → Type 0) (xs : List MarkId) → ((x : MarkId) → T (has x xs) → P x) → All P xs
@@ -226,7 +221,7 @@ module _ (N : ℕ) (s : List Step) (at : AtDesks N s) where
   inPast a b = T (happenedBefore (plainOf s .made) a b)
 
   -- A mark made has a desk.
-  desk-of : (b : MarkId) → T (has b (madeIds (plainOf s .made))) → 1 ≤ N
+  desk-of : (b : MarkId) → T (has b (madeIn s)) → 1 ≤ N
   desk-of b t = some-desk N (b .desk) (at-moment N s at (moment-of s b t .1) .0)
 
   down : (a x b : MarkId) → inPast a x → inPast x b → inPast a b
@@ -237,11 +232,11 @@ module _ (N : ℕ) (s : List Step) (at : AtDesks N s) where
       subst (λ (i : MarkId). inPast x i → inPast a i) (r .name) (λ v. r .rec .good .down x a v t) u
 
   in-past : {a b : MarkId} → Precedes s a b → inPast a b
-  in-past {a} {b} (generated first moment e f g) =
+  in-past {a} {b} (generated-before first moment e f g) =
       let d = at-moment N s at g in
       let sd = some-desk N (b .desk) (d .0) in
       rw (past-listed N sd s at g) (subst (λ (n : ℕ). T (has a (listedAt moment n))) e (own-listed N sd moment (d .1) a (made-at f)))
-  in-past {a} {b} (executed moment n t g) = let sd = some-desk N (b .desk) (at-moment N s at g .0) in rw (past-listed N sd s at g) t
+  in-past {a} {b} (executed-before moment n t g) = let sd = some-desk N (b .desk) (at-moment N s at g .0) in rw (past-listed N sd s at g) t
   in-past {a} {b} (through x p q) = down a x b (in-past p) (in-past q)
 
   preceded : (a b : MarkId) → inPast a b → Precedes s a b
@@ -261,8 +256,8 @@ module _ (N : ℕ) (s : List Step) (at : AtDesks N s) where
 
       go : T (eqb (a .desk) (b .desk)) ⊎ T (not (eqb (a .desk) (b .desk))) → Precedes s a b
       go (inl e) = let f = moment-of (m .0) a (listed-made N sd (m .0) (d .1) (b .desk) a listed) in
-          generated (f .0) (m .0) (eqb→eq (a .desk) (b .desk) e) (f .1) (m .1)
-      go (inr n) = executed (m .0) (λ e. T-not (eqb (a .desk) (b .desk)) n (subst (λ (k : ℕ). T (eqb (a .desk) k)) e (eqb-refl (a .desk)))) listed (m .1)
+          generated-before (f .0) (m .0) (eqb→eq (a .desk) (b .desk) e) (f .1) (m .1)
+      go (inr n) = executed-before (m .0) (λ e. T-not (eqb (a .desk) (b .desk)) n (subst (λ (k : ℕ). T (eqb (a .desk) k)) e (eqb-refl (a .desk)))) listed (m .1)
 
   definition-1 : (a b : MarkId) → Precedes s a b ↔ inPast a b
   definition-1 a b = (in-past, preceded a b)
@@ -270,11 +265,11 @@ module _ (N : ℕ) (s : List Step) (at : AtDesks N s) where
   -- THEOREM 1
 
   -- The entries of a mark with a past are its links.
-  entry-link : (m : Mark) → Good (pastOf (plainOf s .made)) m → (e : MarkId) → T (has e (m .stamp)) → Links s e (m .id)
+  entry-link : (m : Mark) → Good (pastIn s) m → (e : MarkId) → T (has e (m .stamp)) → Links s e (m .id)
   entry-link m g e t = record { precede = preceded e (m .id) (g .entry e t); none-between = λ x p q. g .last e x t (in-past q) (in-past p) }
 
   module _ (S : MarkId → Type 0) (whole : Uninterrupted s S) where
-    chains : (l : List Mark) → Standing (pastOf (plainOf s .made)) l → (b : MarkId) → T (has b (ids l)) → (a : MarkId) → inPast a b → S a → S b → Chain s S a b
+    chains : (l : List Mark) → Standing (pastIn s) l → (b : MarkId) → T (has b (ids l)) → (a : MarkId) → inPast a b → S a → S b → Chain s S a b
     chains [] h b tb a t sa sb = absurd tb
     chains (m ∷ older) h b tb a t sa sb = elim (or-cases (same b (m .id)) (has b (ids older)) tb) [
       | inl q ↦ subst (λ (i : MarkId). inPast a i → S i → Chain s S a i) (sym (same→eq b (m .id) q)) (newest (λ e te u se. chains older (h .1) e te a u sa se)) t sb
@@ -284,9 +279,9 @@ module _ (N : ℕ) (s : List Step) (at : AtDesks N s) where
         newest : ((e : MarkId) → T (has e (ids older)) → inPast a e → S e → Chain s S a e) → inPast a (m .id) → S (m .id) → Chain s S a (m .id)
         newest ih t sb =
             let g = h .0 .good in
-            let r = any-find (λ e. same a e || has a (pastOf (plainOf s .made) e)) (m .stamp) (g .cover a t) in
+            let r = any-find (λ e. same a e || has a (pastIn s e)) (m .stamp) (g .cover a t) in
             let last = entry-link m g (r .0) (r .1) in
-            elim (or-cases (same a (r .0)) (has a (pastOf (plainOf s .made) (r .0))) (r .2)) [
+            elim (or-cases (same a (r .0)) (has a (pastIn s (r .0))) (r .2)) [
               | inl q ↦ link (subst (λ (i : MarkId). Links s i (m .id)) (sym (same→eq a (r .0) q)) last)
               | inr q ↦ let se = whole a (m .id) (r .0) sa sb (preceded a (m .id) t) (preceded a (r .0) q) (last .precede) in
                   onward (r .0) (ih (r .0) (h .0 .behind (r .0) (g .entry (r .0) (r .1))) q se) se last
@@ -313,27 +308,27 @@ module _ (N : ℕ) (s : List Step) (at : AtDesks N s) where
   vector-entry x b = (there, back)
     where
       p : List MarkId
-      p = pastOf (plainOf s .made) b
+      p = pastIn s b
 
       out : MarkId → Bool
-      out e = not (any (λ j. has e (pastOf (plainOf s .made) j)) p)
+      out e = not (any (λ j. has e (pastIn s j)) p)
 
       there : T (has x (lastOfPast (plainOf s .made) b)) → Links s x b
       there t = let k = keep-has out p x (rw (has-rising x (keep out p)) at t) in record {
         precede = preceded x b (k .0);
-        none-between = λ y u v. T-not (any (λ j. has x (pastOf (plainOf s .made) j)) p) (k .1) (any-of (λ j. has x (pastOf (plainOf s .made) j)) p y (in-past v) (in-past u));
+        none-between = λ y u v. T-not (any (λ j. has x (pastIn s j)) p) (k .1) (any-of (λ j. has x (pastIn s j)) p y (in-past v) (in-past u));
       }
 
       back : Links s x b → T (has x (lastOfPast (plainOf s .made) b))
-      back l = rw (has-rising x (keep out p)) (has-keep out p x (in-past (l .precede)) (not-T (any (λ j. has x (pastOf (plainOf s .made) j)) p) (λ t.
-          let r = any-find (λ j. has x (pastOf (plainOf s .made) j)) p t in
+      back l = rw (has-rising x (keep out p)) (has-keep out p x (in-past (l .precede)) (not-T (any (λ j. has x (pastIn s j)) p) (λ t.
+          let r = any-find (λ j. has x (pastIn s j)) p t in
           l .none-between (r .0) (preceded x (r .0) (r .2)) (preceded (r .0) b (r .1)))))
 
   vector : (b : MarkId) → IsVector s b (lastOfPast (plainOf s .made) b)
   unfolding lastOfPast
-  vector b = record { entry = λ x. vector-entry x b; rising = go (split (has b (madeIds (plainOf s .made)))) }
+  vector b = record { entry = λ x. vector-entry x b; rising = go (split (has b (madeIn s))) }
     where
-      go : T (has b (madeIds (plainOf s .made))) ⊎ T (not (has b (madeIds (plainOf s .made)))) → RisingDesks (lastOfPast (plainOf s .made) b)
+      go : T (has b (madeIn s)) ⊎ T (not (has b (madeIn s))) → RisingDesks (lastOfPast (plainOf s .made) b)
       go (inl t) =
           let r = mark-of N (desk-of b t) s at b t in
           subst (λ (i : MarkId). RisingDesks (lastOfPast (plainOf s .made) i)) (r .name) (subst RisingDesks (r .rec .stamp) (strict-rising (r .m .stamp) (r .rec .fit .strict)))
@@ -341,38 +336,35 @@ module _ (N : ℕ) (s : List Step) (at : AtDesks N s) where
 
   -- PROPERTY 1
 
-  module _ (l : List Mark) (h : Standing (pastOf (plainOf s .made)) l) where
-    abbrev past′ : MarkId → List MarkId
-    past′ = pastOf (plainOf s .made)
-
-    is-ready : (m : Mark) → Good past′ m → IsReady s l m
+  module _ (l : List Mark) (h : Standing (pastIn s) l) where
+    is-ready : (m : Mark) → Good (pastIn s) m → IsReady s l m
     is-ready m g = record {
       by-direct = (
         λ t a k. there t a (k .precede),
         λ f. back (λ a ta.
-            let r = any-find (λ e. same a e || has a (past′ e)) (m .stamp) (g .cover a ta) in
+            let r = any-find (λ e. same a e || has a (pastIn s e)) (m .stamp) (g .cover a ta) in
             let k = f (r .0) (entry-link m g (r .0) (r .1)) in
-            elim (or-cases (same a (r .0)) (has a (past′ (r .0))) (r .2)) [
+            elim (or-cases (same a (r .0)) (has a (pastIn s (r .0))) (r .2)) [
               | inl e ↦ rw (same→eq a (r .0) e) k
-              | inr n ↦ behind-all past′ l h (r .0) k a n
+              | inr n ↦ behind-all (pastIn s) l h (r .0) k a n
             ]),
       );
       by-all = (there, λ f. back (λ a ta. f a (preceded a (m .id) ta)));
     }
       where
         there : T (ready l m) → (a : MarkId) → Precedes s a (m .id) → T (has a (ids l))
-        there t a p = all-at (λ a. has a (ids l)) (past′ (m .id)) (rw (ready-past past′ l h m g) at t) a (in-past p)
+        there t a p = all-at (λ a. has a (ids l)) (pastIn s (m .id)) (rw (ready-past (pastIn s) l h m g) at t) a (in-past p)
 
         back : ((a : MarkId) → inPast a (m .id) → T (has a (ids l))) → T (ready l m)
-        back f = rw (ready-past past′ l h m g) (all-intro (λ a. has a (ids l)) (past′ (m .id)) f)
+        back f = rw (ready-past (pastIn s) l h m g) (all-intro (λ a. has a (ids l)) (pastIn s (m .id)) f)
 
     -- PROPERTY 2
 
     traces : (a b : MarkId) → T (has b (ids l)) → T (precedes l a b) ↔ Precedes s a b
-    traces a b tb = (λ t. preceded a b (rw (precedes-past past′ l h a b tb) at t), λ p. rw (precedes-past past′ l h a b tb) (in-past p))
+    traces a b tb = (λ t. preceded a b (rw (precedes-past (pastIn s) l h a b tb) at t), λ p. rw (precedes-past (pastIn s) l h a b tb) (in-past p))
 
     inside : (x b : MarkId) → T (has b (ids l)) → Precedes s x b → T (has x (ids l))
-    inside x b tb p = behind-all past′ l h b tb x (in-past p)
+    inside x b tb p = behind-all (pastIn s) l h b tb x (in-past p)
 
     apart : (a b : MarkId) → T (has a (ids l)) → T (has b (ids l)) → T (concurrent l a b) ↔ Apart s a b
     unfolding concurrent
@@ -406,7 +398,7 @@ module _ (N : ℕ) (s : List Step) (at : AtDesks N s) where
     }
 
   -- Causality is preserved.
-  preserved : (l : List Mark) → Standing (pastOf (plainOf s .made)) l → (a b : MarkId) → T (has b (ids l)) → inPast a b → T (has a (earlier b (ids l)))
+  preserved : (l : List Mark) → Standing (pastIn s) l → (a b : MarkId) → T (has b (ids l)) → inPast a b → T (has a (earlier b (ids l)))
   preserved [] h a b tb t = absurd tb
   preserved (m ∷ older) h a b tb t = go (same b (m .id)) refl tb (λ u. preserved older (h .1) a b u t)
     where
@@ -422,10 +414,10 @@ module _ (N : ℕ) (sd : 1 ≤ N) (s : List Step) (at : AtDesks N s) (d : ℕ) w
   abbrev st : State
   st = markStateAt N (runMarks N s) d
 
-  h : Standing (pastOf (plainOf s .made)) (st .executed)
+  h : Standing (pastIn s) (st .executed)
   h = inv N sd s at .ok d .hist
 
-  each-frame : (P : Mark → Type 0) → ((m : Mark) → Good (pastOf (plainOf s .made)) m → P m)
+  each-frame : (P : Mark → Type 0) → ((m : Mark) → Good (pastIn s) m → P m)
       → All (λ f. P (markIn N (f .bytes))) (map (framed N sd) (runMarks N s .frames))
   each-frame P f = frames-all N sd s at (λ f. P (markIn N (f .bytes))) (runMarks N s .frames)
       (all-map {P = Recorded N sd (pastAt N sd s) (registerAt N sd s) (runMarks N s)} (λ m r. rw (fit-back N m (r .fit)) (f m (r .good))) (runMarks N s .frames) (inv N sd s at .frames))
@@ -436,8 +428,8 @@ module _ (N : ℕ) (sd : 1 ≤ N) (s : List Step) (at : AtDesks N s) (d : ℕ) w
     preserved = λ a b tb p. preserved N s at (st .executed) h a b tb (in-past N s at p);
     property-1 = each-frame (IsReady s (st .executed)) (is-ready N s at (st .executed) h);
     history = traced N s at (st .executed) h;
-    property-2 = each-frame (λ m. T (not (has (m .id) (ids (st .executed)))) → T (ready (st .executed) m) → Traced s (m ∷ st .executed)) (λ m g n t.
-        traced N s at (m ∷ st .executed) (ready-stands (pastOf (plainOf s .made)) (st .executed) h m g n (rw (ready-past (pastOf (plainOf s .made)) (st .executed) h m g) at t), h));
+    property-2 = each-frame (TracedWith s (st .executed)) (λ m g n t.
+        traced N s at (m ∷ st .executed) (ready-stands (pastIn s) (st .executed) h m g n (rw (ready-past (pastIn s) (st .executed) h m g) at t), h));
   }
 
 pub paper : (N : ℕ) → Paper N

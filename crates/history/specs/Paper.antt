@@ -34,9 +34,9 @@ pub record MadeAt (s moment : List Step) (b : MarkId) : Type 0 where
 -- the desks answer and list so themselves.
 pub data Precedes (s : List Step) : MarkId → MarkId → Type 0 where
   -- "(1) i = j and the generation of o_a happened before the generation of o_b, or"
-  generated : {a b : MarkId} (first moment : List Step) → a .desk ≡ b .desk → MadeAt moment first a → MadeAt s moment b → Precedes s a b
+  generated-before : {a b : MarkId} (first moment : List Step) → a .desk ≡ b .desk → MadeAt moment first a → MadeAt s moment b → Precedes s a b
   -- "(2) i ≠ j and the execution of o_a at site j happened before the generation of o_b, or"
-  executed : {a b : MarkId} (moment : List Step) → ¬ (a .desk ≡ b .desk) → T (has a (listedAt moment (b .desk))) → MadeAt s moment b → Precedes s a b
+  executed-before : {a b : MarkId} (moment : List Step) → ¬ (a .desk ≡ b .desk) → T (has a (listedAt moment (b .desk))) → MadeAt s moment b → Precedes s a b
   -- "(3) there exists an operation o_x, such that o_a → o_x and o_x → o_b."
   through : {a b : MarkId} (x : MarkId) → Precedes s a x → Precedes s x b → Precedes s a b
 
@@ -85,6 +85,10 @@ pub record Traced (s : List Step) (l : List Mark) : Type 0 where
   -- "Notice that HB ∪ o is an uninterrupted operation set".
   pub uninterrupted : Uninterrupted s (λ i. T (has i (ids l)))
 
+-- "Assume o is an unexecuted remote operation that is causally ready already.": a mark m that is not executed and ready.
+abbrev pub TracedWith : List Step → List Mark → Mark → Type 0
+TracedWith s executed m = T (not (has (m .id) (ids executed))) → T (ready executed m) → Traced s (m ∷ executed)
+
 -- One desk of the sequence, and the marks that frames of the sequence spell.
 pub record PaperAt (N : ℕ) (s : List Step) (st : State) (frames : List Written) : Type 0 where
   pub vectors : All (λ m. IsVector s (m .id) (m .stamp)) (st .executed ++ st .waiting)
@@ -93,8 +97,7 @@ pub record PaperAt (N : ℕ) (s : List Step) (st : State) (frames : List Written
   pub property-1 : All (λ f. IsReady s (st .executed) (markIn N (f .bytes))) frames
   -- "So is the causal relationship between two arbitrary causal operations in HB."
   pub history : Traced s (st .executed)
-  -- "Assume o is an unexecuted remote operation that is causally ready already."
-  pub property-2 : All (λ f. let m = markIn N (f .bytes) in T (not (has (m .id) (ids (st .executed)))) → T (ready (st .executed) m) → Traced s (m ∷ st .executed)) frames
+  pub property-2 : All (λ f. TracedWith s (st .executed) (markIn N (f .bytes))) frames
 
 pub record PaperOver (N : ℕ) (s : List Step) : Type 1 where
   -- Definition 1 is the history's "a happened before b exactly when a is in b's past".
