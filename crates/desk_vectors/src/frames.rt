@@ -58,7 +58,7 @@ pub fn extent() -> MarkBox {
 
 // A mark with this past and these entries.
 pub fn stamped(desk: u8, number: u16, past: Past, entries: &[u8], out: &mut [u8]) {
-    frame::writer::write(
+    writer::write(
         Fields {
             desk: desk,
             number: Number(number),

@@ -109,7 +109,7 @@ fn made(n: u16, size: usize, out: &[u8]) {
     if size <= out.len() {
         let frame = &out[0..size];
         past(frame);
-        stamp(frame::reader::entries(frame));
+        stamp(reader::entries(frame));
     }
 }
 

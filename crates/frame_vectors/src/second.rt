@@ -143,13 +143,8 @@ pub fn written_again_case() {
 fn other(label: &[u8], frame: &[u8], size: usize, past: Past) {
     if size <= frame.len() {
         let read = &frame[0..size];
-        match frame::reader::fields(read) {
-            Reading::Fields(f) => writes::lend(
-                label,
-                told(f, past),
-                frame::reader::entries(read),
-                40,
-            ),
+        match reader::fields(read) {
+            Reading::Fields(f) => writes::lend(label, told(f, past), reader::entries(read), 40),
             Reading::Refused(_) => show::read(label, read),
         }
     }

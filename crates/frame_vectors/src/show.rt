@@ -67,11 +67,11 @@ fn fields(f: Fields) {
 // Both calls of the reader: the fields or the refusal, and the entries.
 pub fn read(label: &[u8], frame: &[u8]) {
     io::write_all(1, label);
-    match frame::reader::fields(frame) {
+    match reader::fields(frame) {
         Reading::Fields(f) => fields(f),
         Reading::Refused(r) => number(b": refused ", r.number() as u64),
     }
-    bytes(b", entries ", frame::reader::entries(frame));
+    bytes(b", entries ", reader::entries(frame));
     io::write_all(1, b"\n");
 }
 
@@ -92,7 +92,7 @@ fn written(size: usize, out: &[u8]) {
 // The writer: the bytes that it wrote or the refusal, and the lent bytes that it kept.
 pub fn write(label: &[u8], f: Fields, entries: &[u8], out: &mut [u8]) {
     io::write_all(1, label);
-    match frame::writer::write(f, entries, out) {
+    match writer::write(f, entries, out) {
         Writing::Size(size) => written(size, out),
         Writing::Refused(r) => {
             number(b": refused ", r.number() as u64);

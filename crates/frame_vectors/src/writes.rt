@@ -58,8 +58,8 @@ fn entry(label: &[u8], f: Fields, desk: u8, lent: usize) {
 pub fn again(label: &[u8], frame: &[u8], size: usize, lent: usize) {
     if size <= frame.len() {
         let read = &frame[0..size];
-        match frame::reader::fields(read) {
-            Reading::Fields(f) => lend(label, f, frame::reader::entries(read), lent),
+        match reader::fields(read) {
+            Reading::Fields(f) => lend(label, f, reader::entries(read), lent),
             Reading::Refused(_) => show::read(label, read),
         }
     }

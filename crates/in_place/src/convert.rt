@@ -64,7 +64,7 @@ pub fn to_second<'a>(
         (againLent (desks .entry) (numbers .entry) (boxes .entry) (pasts .entry) (stamps .entry) (tally .entry) (last .entry) (before .entry))
         (λ st. ToSecondIn st (now (frame .entry)) (now (out .entry)) (now (out .exit)) r) ⌝ }
 {
-    match frame::reader::fields(frame) {
+    match reader::fields(frame) {
         Reading::Refused(refusal) => Writing::Refused(refusal),
         Reading::Fields(f) => {
             let h = receive::mark_in(f, frame);
@@ -91,7 +91,7 @@ pub fn to_second<'a>(
 pub fn to_first(frame: &[u8], out: &mut [u8]) -> Writing
     ensures { λ r. ⌜ ToFirstIn (now (frame .entry)) (now (out .entry)) (now (out .exit)) r ⌝ }
 {
-    match frame::reader::fields(frame) {
+    match reader::fields(frame) {
         Reading::Refused(refusal) => Writing::Refused(refusal),
         Reading::Fields(f) => {
             let h = receive::mark_in(f, frame);

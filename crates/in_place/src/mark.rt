@@ -33,7 +33,7 @@ pub(crate) fn write_mark(h: Held, out: &mut [u8]) -> Writing
     let e = rows::entries_of(row);
     let bytes = e.bytes;
     let size = e.size;
-    frame::writer::write(
+    writer::write(
         Fields {
             desk: h.desk,
             number: number,

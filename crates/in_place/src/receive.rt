@@ -26,7 +26,7 @@ pub(crate) fn mark_in(f: Fields, frame: &[u8]) -> Held
     let number = f.number;
     let extent = f.extent;
     let past = f.past;
-    let row = rows::row_of(frame::reader::entries(frame));
+    let row = rows::row_of(reader::entries(frame));
     Held {
         desk: f.desk,
         number: number,
@@ -64,7 +64,7 @@ pub fn receiving(
         (left count desks numbers boxes pasts stamps tally heads last before) (heldLeft waiting wdesks wnumbers wboxes wpasts wstamps)
         (now (frame .entry)) r ⌝ }
 {
-    match frame::reader::fields(frame) {
+    match reader::fields(frame) {
         Reading::Refused(refusal) => Received::Refused(refusal),
         Reading::Fields(f) => {
             let h = mark_in(f, frame);

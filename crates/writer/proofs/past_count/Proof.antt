@@ -1,8 +1,8 @@
 -- `past_count` meets its contract.
 use Rattle.frame.specs.Frame.{bytes2}
 use borrow.Author.Needs.{needs}
-use Rattle.frame.proofs.writer.past_count.Statement.{statement}
-use Rattle.frame.proofs.writer.past_count.Tie as tie
+use Rattle.writer.proofs.past_count.Statement.{statement}
+use Rattle.writer.proofs.past_count.Tie as tie
 
 returns-2 : tie.Need-returns-2
 unfolding bytes2
