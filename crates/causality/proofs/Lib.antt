@@ -12,6 +12,7 @@ pub mod Refusals
 pub mod Growth
 pub mod Reach
 pub mod Room
+pub mod Upto
 pub mod Rows
 pub mod Heads
 pub mod Fit

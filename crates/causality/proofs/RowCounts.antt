@@ -1,10 +1,10 @@
 -- The reckoning by rows: it is the sum of the row that a mark's entries reach, and that row is final as soon as it covers the tally. Assumes nothing.
-use Prim.Native.Nat.{_+_, _≤_, max, min, suc, zero, ℕ}
+use Prim.Native.Nat.{_≤_, max, min, suc, ℕ}
 use lib.Dec.{T, T-not, eqb, eqb-refl, eqb→eq, leb, leb→le, le→leb, nleb→lt, not-T}
 use lib.ListN.{length}
 use mathlib.Core.Bool.{Bool, cond, false, not, true}
 use mathlib.Core.List.{List, [], _∷_}
-use mathlib.Core.Logic.{_⊎_, inl, inr}
+use mathlib.Core.Logic.{inl, inr}
 use mathlib.Core.Path.{_∙_, _≡_, ap, refl, subst, sym}
 use native.Mathlib.Omega.{arith}
 use Rattle.frame.specs.Mark.{MarkId}
@@ -16,37 +16,8 @@ use Rattle.causality.proofs.Logic.{nT→eq, or-inr, split}
 use Rattle.causality.proofs.Past.{Counted, prefix-le, tally-same}
 use Rattle.causality.proofs.Reach.{Sound, local-hist, local-precedes, precedes-self, sound-counted}
 use Rattle.causality.specs.inner.Passes.{rowOf, under}
-
--- The counts of a row for desks 1 to n, added up.
-abbrev pub rowSum : ℕ → (ℕ → ℕ) → ℕ
-rowSum zero r = 0
-rowSum (suc n) r = r (suc n) + rowSum n r
-
-pub sum-cong : (n : ℕ) (r s : ℕ → ℕ) → ((d : ℕ) → 1 ≤ d → d ≤ n → r d ≡ s d) → rowSum n r ≡ rowSum n s
-sum-cong zero r s f = refl
-sum-cong (suc n) r s f = let a = f (suc n) (omega arith) (omega arith) in let b = sum-cong n r s (λ d p q. f d p (omega arith)) in λ i. a i + b i
-
-sum-zero : (n : ℕ) (r : ℕ → ℕ) → ((d : ℕ) → r d ≡ 0) → rowSum n r ≡ 0
-sum-zero zero r f = refl
-sum-zero (suc n) r f = let a = f (suc n) in let b = sum-zero n r f in omega arith
-
--- One count is one more.
-sum-one : (n : ℕ) (r s : ℕ → ℕ) (c : ℕ) → 1 ≤ c → c ≤ n → s c ≡ suc (r c) → ((d : ℕ) → (d ≡ c → ⊥) → s d ≡ r d) → rowSum n s ≡ suc (rowSum n r)
-sum-one zero r s c p q e f = let z : ⊥ = omega arith in absurd z
-sum-one (suc n) r s c p q e f = go (split (leb c n)) (λ t. sum-one n r s c p t e f)
-  where
-    go : T (leb c n) ⊎ T (not (leb c n)) → (c ≤ n → rowSum n s ≡ suc (rowSum n r)) → s (suc n) + rowSum n s ≡ suc (r (suc n) + rowSum n r)
-    go (inl t) ih =
-        let l = leb→le c n t in
-        let a = f (suc n) (λ x. let y : ⊥ = omega arith in y) in
-        let b = ih l in
-        omega arith
-    go (inr t) ih =
-        let l = nleb→lt c n t in
-        let k : c ≡ suc n = omega arith in
-        let a : s (suc n) ≡ suc (r (suc n)) = subst (λ (x : ℕ). s x ≡ suc (r x)) k e in
-        let b = sum-cong n s r (λ d u v. f d (λ x. let y : ⊥ = omega arith in y)) in
-        omega arith
+use Rattle.causality.specs.inner.Upto.{sumTo}
+use Rattle.causality.proofs.Upto.{sum-cong, sum-one, sum-zero}
 
 pub tally-other : (d : ℕ) (i : MarkId) (is : List MarkId) → (d ≡ i .desk → ⊥) → tally d (i ∷ is) ≡ tally d is
 tally-other d i is n = go (eqb d (i .desk)) refl
@@ -57,7 +28,7 @@ tally-other d i is n = go (eqb d (i .desk)) refl
 
 -- How many of the marks a row covers.
 sum-counts : (n : ℕ) (r : ℕ → ℕ) (is : List MarkId) → Counted is → ((i : MarkId) → T (has i is) → (1 ≤ i .desk) × (i .desk ≤ n))
-    → length (keep (λ a. leb (a .number) (r (a .desk))) is) ≡ rowSum n (λ d. min (r d) (tally d is))
+    → length (keep (λ a. leb (a .number) (r (a .desk))) is) ≡ sumTo n (λ d. min (r d) (tally d is))
 sum-counts n r [] c f = sym (sum-zero n (λ d. min (r d) 0) (λ d. omega arith))
 sum-counts n r (i ∷ is) c f = go (leb (i .number) (r (i .desk))) refl (sum-counts n r is (c .1) (λ j t. f j (or-inr (same j i) (has j is) t)))
   where
@@ -76,14 +47,14 @@ sum-counts n r (i ∷ is) c f = go (leb (i .number) (r (i .desk))) refl (sum-cou
     at : new (i .desk) ≡ min (r (i .desk)) (suc (tally (i .desk) is))
     at = ap (λ (t : ℕ). min (r (i .desk)) t) (tally-same (i .desk) i is refl)
 
-    go : (b : Bool) → leb (i .number) (r (i .desk)) ≡ b → length k ≡ rowSum n old → length (cond b (i ∷ k) k) ≡ rowSum n new
+    go : (b : Bool) → leb (i .number) (r (i .desk)) ≡ b → length k ≡ sumTo n old → length (cond b (i ∷ k) k) ≡ sumTo n new
     go true e ih =
         let l = leb→le (i .number) (r (i .desk)) (rw e tt) in
         let x = c .0 in
         let y = at in
         let d = f i (has-self i is) in
         let o : new (i .desk) ≡ suc (old (i .desk)) = omega arith in
-        ap suc ih ∙ sym (sum-one n old new (i .desk) (d .0) (d .1) o same-else)
+        ap suc ih ∙ sym (sum-one n old new (i .desk) (d .0) (d .1) o (λ e p. same-else e))
     go false e ih =
         let l = nleb→lt (i .number) (r (i .desk)) (rw e tt) in
         let x = c .0 in
@@ -110,7 +81,7 @@ module _ (n : ℕ) (m : Mark) (older : List Mark) (so : Sound (m ∷ older)) (s 
     | inr t ↦ let k = nleb→lt 1 (row d) t in omega arith
   ]
 
-  pub reckoning-row : ((i : MarkId) → T (has i (ids older)) → (1 ≤ i .desk) × (i .desk ≤ n)) → reckoning (m ∷ older) (m .id) ≡ rowSum n (λ d. max (s d) (under older s r d))
+  pub reckoning-row : ((i : MarkId) → T (has i (ids older)) → (1 ≤ i .desk) × (i .desk ≤ n)) → reckoning (m ∷ older) (m .id) ≡ sumTo n (λ d. max (s d) (under older s r d))
   unfolding reckoning
   reckoning-row f = rw (nT→eq (precedes (m ∷ older) (m .id) (m .id)) alone) (ap length (keep-cong p q (ids older) agree)
       ∙ sum-counts n row (ids older) (sound-counted older (so .1)) f ∙ sum-cong n (λ d. min (row d) (tally d (ids older))) row (λ d a b. let t = row-tally d in omega arith))

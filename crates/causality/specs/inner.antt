@@ -1,2 +1,3 @@
 -- The modules of definitions that need not be believed.
 pub mod Passes
+pub mod Upto

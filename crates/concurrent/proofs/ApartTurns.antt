@@ -11,7 +11,7 @@ use native.Mathlib.Omega.{arith}
 use Rattle.frame.specs.Mark.{MarkId}
 use Rattle.causality.specs.Marks.{has, keep, places, same}
 use Rattle.causality.specs.State.{concurrent, ids, precedes}
-use Rattle.causality.proofs.Apart.{someFollower}
+use Rattle.causality.specs.inner.Upto.{someReached}
 use Rattle.causality.proofs.Logic.{not-leb}
 use Rattle.causality.proofs.Reach.{Sound}
 use Rattle.pairs.specs.Pairs.{Spare}
@@ -20,6 +20,7 @@ use Rattle.pairs.proofs.Longer.{longer, longer-names, longer-spare}
 use Rattle.rows.specs.View.{Carried, nameAt, namesDown, rowFn, view}
 use Rattle.rows.proofs.Places.{has-at, ids-names}
 use Rattle.concurrent.specs.Steps.{Tells}
+use Rattle.causality.proofs.Upto.{any-more, any-none}
 
 -- THE TEST
 
@@ -29,24 +30,24 @@ from ss base d = getD ss (base + (d - 1)) 0
 
 -- Whether the mark is the given one, b, or its stamp names a follower at one of the first j desks.
 abbrev pub passed : Bool → List ℕ → List ℕ → ℕ → ℕ → Bool
-passed b first ss base j = b || someFollower j (rowFn first) (from ss base)
+passed b first ss base j = b || someReached j (rowFn first) (from ss base)
 
 pub passed-none : (b : Bool) (first ss : List ℕ) (base : ℕ) → b ≡ passed b first ss base 0
-passed-none b first ss base = sym (or-false b)
+passed-none b first ss base = sym (ap (λ (x : Bool). b || x) (any-none _) ∙ or-false b)
 
 module _ (b : Bool) (first ss : List ℕ) (base j : ℕ) where
   abbrev next : Bool
   next = ltb 0 (getD first j 0) && leb (getD first j 0) (getD ss (base + j) 0)
 
-  more : passed b first ss base (j + 1) ≡ (b || (next || someFollower j (rowFn first) (from ss base)))
-  more = rw (add-one j, sub-one (suc j)) refl
+  more : passed b first ss base (j + 1) ≡ (b || (next || someReached j (rowFn first) (from ss base)))
+  more = rw (any-more (λ d. ltb 0 (rowFn first d) && leb (rowFn first d) (from ss base d)) j, sub-one (suc j)) refl
 
   -- The next desk has a follower, or none.
   pub passed-yes : next ≡ true → true ≡ passed b first ss base (j + 1)
-  passed-yes e = sym (more ∙ ap (λ (x : Bool). b || (x || someFollower j (rowFn first) (from ss base))) e ∙ or-true b)
+  passed-yes e = sym (more ∙ ap (λ (x : Bool). b || (x || someReached j (rowFn first) (from ss base))) e ∙ or-true b)
 
   pub passed-no : next ≡ false → passed b first ss base j ≡ passed b first ss base (j + 1)
-  passed-no e = sym (more ∙ ap (λ (x : Bool). b || (x || someFollower j (rowFn first) (from ss base))) e)
+  passed-no e = sym (more ∙ ap (λ (x : Bool). b || (x || someReached j (rowFn first) (from ss base))) e)
 
 -- THE TURN
 

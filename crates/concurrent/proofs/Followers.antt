@@ -1,7 +1,7 @@
 -- The first followers of a mark, noted in a row as the places pass. n: how many desks. Assumes nothing.
 use Prim.Native.Nat.{_+_, _-_, _<_, _≤_, suc, ℕ}
 use borrow.Author.Tests.{eq-eqb, eqb-false, eqb-true, ne-eqb}
-use lib.Dec.{eqb}
+use lib.Dec.{eqb, leb, ltb}
 use lib.ListN.{getD, length, length-replicate, length-set, replicate, set}
 use lib.Seq.{getD-set-other, getD-set-same}
 use mathlib.Core.Bool.{Bool, _&&_, _||_, false, true}
@@ -12,7 +12,9 @@ use native.Mathlib.Omega.{arith}
 use Rattle.frame.specs.Mark.{MarkId}
 use Rattle.causality.specs.Marks.{same}
 use Rattle.causality.specs.State.{Mark, precedes}
-use Rattle.causality.proofs.Apart.{follower-cong, follower-new, followers, noted, reached-by-row, reachedBy, someFollower}
+use Rattle.causality.proofs.Apart.{follower-new, followers, noted, reached-by-row, reachedBy}
+use Rattle.causality.specs.inner.Upto.{someReached}
+use Rattle.causality.proofs.Upto.{any-to-cong}
 use Rattle.causality.proofs.Reach.{Sound}
 use Rattle.rows.specs.View.{Carried, markAt, rowAt, rowFn, view}
 use Rattle.rows.proofs.Arrays.{sound-below}
@@ -58,7 +60,7 @@ module _ (n : ℕ) (ds ns ss : List ℕ) (count p : ℕ) where
   module _ (q : ℕ) (first : List ℕ) (w : Noted q first) (h : p < count) (l : q < count) where
     -- Is the mark the given one, or does its stamp name a follower?
     abbrev pub names : Bool
-    names = eqb p q || someFollower n (rowFn first) (rowAt n ss q)
+    names = eqb p q || someReached n (rowFn first) (rowAt n ss q)
 
     module _ (bs : ℕ → Carried) (s : Sound (view n count ds ns bs ss)) where
       abbrev m : Mark
@@ -70,7 +72,7 @@ module _ (n : ℕ) (ds ns ss : List ℕ) (count p : ℕ) where
       names-is : names ≡ (same given (m .id) || reachedBy (followers given older) (m .stamp))
       names-is =
           let a = same-place n ds ns bs ss count p q s h l in
-          let b = follower-cong n (rowFn first) (followers given older) (rowAt n ss q) (w .rows bs s) ∙ sym (reached-by-row n (followers given older) (rowAt n ss q)) in
+          let b = any-to-cong n (λ d. ltb 0 (rowFn first d) && leb (rowFn first d) (rowAt n ss q d)) _ (λ d lo hi. let e = w .rows bs s d lo hi in λ i. ltb 0 (e i) && leb (e i) (rowAt n ss q d)) ∙ sym (reached-by-row n (followers given older) (rowAt n ss q)) in
           λ i. a i || b i
 
       -- The given mark or one that follows it.

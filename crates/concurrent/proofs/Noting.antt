@@ -1,21 +1,17 @@
 -- The row of first followers, noted from the mark's own place on. n: how many desks. Assumes nothing.
 use Prim.Native.Nat.{_+_, _-_, _<_, _≤_, suc, zero, ℕ}
-use borrow.Author.Tests.{lt-ltb}
-use lib.Dec.{eqb, leb, ltb, ltb→lt, nltb→le}
+use lib.Dec.{eqb, leb, ltb, ltb→lt}
 use lib.ListN.{getD, length, replicate, set}
-use lib.Seq.{getD-set-other, getD-set-same}
-use mathlib.Core.Bool.{Bool, _&&_, _||_, false, true}
+use mathlib.Core.Bool.{_&&_, _||_, false, true}
 use mathlib.Core.List.{List}
-use mathlib.Core.Logic.{inl, inr}
 use mathlib.Core.Path.{_∙_, _≡_, ap, refl, subst, sym}
-use native.Mathlib.Numerals.{add-one}
+use native.Mathlib.Numerals.{add-one, sub-one}
 use native.Mathlib.Omega.{arith}
 use Rattle.frame.specs.Mark.{MarkId}
-use Rattle.causality.specs.Marks.{has}
-use Rattle.causality.proofs.Apart.{follower-row, someFollower}
-use Rattle.causality.proofs.Logic.{split}
+use Rattle.causality.proofs.Apart.{follower-row}
+use Rattle.causality.specs.inner.Upto.{someReached}
 use Rattle.causality.proofs.Reach.{Sound}
-use Rattle.predecessors.proofs.OldestLaws.{namesIn}
+use Rattle.predecessors.proofs.OldestLaws.{names-one-more, namesIn, one}
 use Rattle.rows.specs.View.{Carried, Named, nameAt, rowAt, rowFn, view}
 use Rattle.rows.proofs.Arrays.{follows-below, sound-below}
 use Rattle.rows.proofs.Places.{ids-names}
@@ -24,67 +20,16 @@ use Rattle.rows.proofs.Slots.{zeros}
 use Rattle.concurrent.proofs.Followers.{Noted, none-before, note-behind, note-new, note-none, noted-none}
 use Rattle.concurrent.specs.Steps.{Tells, isOrFollows}
 use Rattle.concurrent.proofs.ByPlaces.{follows-there, name-place}
+use Rattle.causality.proofs.Upto.{count-all, sum-zero}
 
 -- HOW MANY DESKS HAVE ONE
 
-names-none : (n k : ℕ) → namesIn k (replicate n 0) ≡ 0
-unfolding namesIn
-names-none n zero = refl
-names-none n (suc k) = ap (λ (x : ℕ). elim (ltb 0 x) [ true ↦ suc (namesIn k (replicate n 0)) | false ↦ namesIn k (replicate n 0) ]) (zeros n k) ∙ names-none n k
+names-none : (n : ℕ) → namesIn n (replicate n 0) ≡ 0
+names-none n = sum-zero n (one (replicate n 0)) (λ d. rw (zeros n (d - 1)) refl)
 
--- A count where there was none adds one to the first k, if it is among them.
-module _ (r : List ℕ) (i v : ℕ) (none : getD r i 0 ≡ 0) (pos : 0 < v) (in-row : i < length r) where
-  names-beyond : (k : ℕ) → k ≤ i → namesIn k (set r i v) ≡ namesIn k r
-  unfolding namesIn
-  names-beyond zero h = refl
-  names-beyond (suc k) h =
-      let e = getD-set-other r i k v 0 (λ x. omega arith) in
-      let f = names-beyond k (omega arith) in
-      λ j. elim (ltb 0 (e j)) [ true ↦ suc (f j) | false ↦ f j ]
-
-  names-one-more : (k : ℕ) → i < k → namesIn k (set r i v) ≡ suc (namesIn k r)
-  unfolding namesIn
-  names-one-more zero h = let z : ⊥ = omega arith in absurd z
-  names-one-more (suc k) h = elim (split (ltb i k)) [
-    | inl t ↦
-        let e = getD-set-other r i k v 0 (λ x. let u = ltb→lt i k t in omega arith) in
-        let f = names-one-more k (ltb→lt i k t) in
-        (λ j. elim (ltb 0 (e j)) [ true ↦ suc (f j) | false ↦ f j ]) ∙ out (ltb 0 (getD r k 0)) (namesIn k r)
-    | inr t ↦
-        let u = nltb→le i k t in
-        let e : i ≡ k = omega arith in
-        subst (λ (x : ℕ). namesIn (suc x) (set r i v) ≡ suc (namesIn (suc x) r)) e
-        (let a = getD-set-same r i v 0 in-row ∙ refl in
-        ap (λ (x : ℕ). elim (ltb 0 x) [ true ↦ suc (namesIn i (set r i v)) | false ↦ namesIn i (set r i v) ]) a
-        ∙ ap (λ (b : Bool). elim b [ true ↦ suc (namesIn i (set r i v)) | false ↦ namesIn i (set r i v) ]) (lt-ltb 0 v pos)
-        ∙ ap suc (names-beyond i (omega arith) ∙ ap (λ (x : ℕ). elim (ltb 0 x) [ true ↦ suc (namesIn i r) | false ↦ namesIn i r ]) (sym none)))
-  ]
-    where
-      out : (b : Bool) (x : ℕ) → elim b [ true ↦ suc (suc x) | false ↦ suc x ] ≡ suc (elim b [ true ↦ suc x | false ↦ x ])
-      out true x = refl
-      out false x = refl
-
-names-few : (k : ℕ) (r : List ℕ) → namesIn k r ≤ k
-unfolding namesIn
-names-few zero r = omega arith
-names-few (suc k) r = go (ltb 0 (getD r k 0)) (names-few k r)
-  where
-    go : (b : Bool) → namesIn k r ≤ k → elim b [ true ↦ suc (namesIn k r) | false ↦ namesIn k r ] ≤ suc k
-    go true h = omega arith
-    go false h = omega arith
-
--- Where all k have one, each has.
+-- Where all have one, each has.
 names-all : (k : ℕ) (r : List ℕ) → namesIn k r ≡ k → (j : ℕ) → j < k → 0 < getD r j 0
-unfolding namesIn
-names-all zero r e j h = let z : ⊥ = omega arith in absurd z
-names-all (suc k) r e j h = go (ltb 0 (getD r k 0)) refl e (names-all k r)
-  where
-    go : (b : Bool) → ltb 0 (getD r k 0) ≡ b → elim b [ true ↦ suc (namesIn k r) | false ↦ namesIn k r ] ≡ suc k → (namesIn k r ≡ k → (j : ℕ) → j < k → 0 < getD r j 0) → 0 < getD r j 0
-    go false q f ih = let x = names-few k r in let z : ⊥ = omega arith in absurd z
-    go true q f ih = elim (split (ltb j k)) [
-      | inl t ↦ ih (omega arith) j (ltb→lt j k t)
-      | inr t ↦ let u = nltb→le j k t in let y : k ≡ j = omega arith in subst (λ (x : ℕ). 0 < getD r x 0) y (ltb→lt 0 (getD r k 0) (rw q tt))
-    ]
+names-all k r e j h = ltb→lt 0 (getD r j 0) (rw (sub-one (suc j)) at (count-all k (λ d. ltb 0 (rowFn r d)) e (suc j) (omega arith) h))
 
 -- THE PASS
 
@@ -113,7 +58,7 @@ module _ (n : ℕ) (ds ns ss : List ℕ) (p q : ℕ) where
       few = omega arith;
       long = start (suc q) (omega arith) (omega arith) p (omega arith) .long;
       noted = λ count j k. start count j k p (omega arith);
-      desks = λ count j k bs s. names-none n n;
+      desks = λ count j k bs s. names-none n;
     }
 
     module _ (r : ℕ) (first : List ℕ) (found : ℕ) (w : NotedTo r first found) (l : r < q) where
@@ -124,7 +69,7 @@ module _ (n : ℕ) (ds ns ss : List ℕ) (p q : ℕ) where
       hi = named-at n q ds r named l .1
 
       -- The mark is the first follower of its desk; of a desk that has one; none.
-      pub noting-new : getD first (getD ds r 0 - 1) 0 ≡ 0 → (eqb p r || someFollower n (rowFn first) (rowAt n ss r)) ≡ true
+      pub noting-new : getD first (getD ds r 0 - 1) 0 ≡ 0 → (eqb p r || someReached n (rowFn first) (rowAt n ss r)) ≡ true
           → NotedTo (r + 1) (set first (getD ds r 0 - 1) (getD ns r 0)) (found + 1)
       noting-new z e =
           let f = w .from in
@@ -142,7 +87,7 @@ module _ (n : ℕ) (ds ns ss : List ℕ) (p q : ℕ) where
                 let long = w .long in
                 let a = hi in
                 let b = lo in
-                names-one-more first (getD ds r 0 - 1) (getD ns r 0) z (omega arith) (omega arith) n (omega arith) ∙ ap suc (w .desks count j k bs s) ∙ sym (add-one found);
+                names-one-more n (getD ds r 0 - 1) first (getD ns r 0) (omega arith) (omega arith) z (omega arith) ∙ ap suc (w .desks count j k bs s) ∙ sym (add-one found);
           }
 
       pub noting-behind : (getD first (getD ds r 0 - 1) 0 ≡ 0 → ⊥) → NotedTo (r + 1) first found
@@ -151,7 +96,7 @@ module _ (n : ℕ) (ds ns ss : List ℕ) (p q : ℕ) where
           let g = w .few in
           record { from = omega arith; to = omega arith; few = omega arith; long = w .long; noted = λ count j k. note-behind n ds ns ss count p r first (w .noted count j k) (omega arith) (omega arith) lo hi z; desks = w .desks }
 
-      pub noting-none : (eqb p r || someFollower n (rowFn first) (rowAt n ss r)) ≡ false → NotedTo (r + 1) first found
+      pub noting-none : (eqb p r || someReached n (rowFn first) (rowAt n ss r)) ≡ false → NotedTo (r + 1) first found
       noting-none e =
           let f = w .from in
           let g = w .few in

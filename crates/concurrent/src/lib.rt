@@ -6,7 +6,7 @@ ghost use lib.Dec.{eqb, leb, ltb};
 ghost use Rattle.causality.specs.Marks.{places};
 ghost use Rattle.causality.specs.Meaning.{idOf};
 ghost use Rattle.causality.specs.declared.Counted.the-variants.{Refused};
-ghost use Rattle.causality.proofs.Apart.{someFollower};
+ghost use Rattle.causality.specs.inner.Upto.{someReached};
 ghost use Rattle.executed.specs.Rows.{Lent};
 ghost use Rattle.rows.specs.View.{width, rowFn, rowAt, Named};
 ghost use Rattle.concurrent.specs.Found.{ApartAt, ApartFound};
@@ -44,7 +44,7 @@ fn follows<'a>(
     q: Place,
 ) -> bool
     requires { ⌜ q .0 < places ⌝ }
-    ensures { λ r. ⌜ r ≡ (eqb (p .0) (q .0) || someFollower width (rowFn (now (first .entry))) (rowAt width (now (stamps .entry)) (q .0))) ⌝ }
+    ensures { λ r. ⌜ r ≡ (eqb (p .0) (q .0) || someReached width (rowFn (now (first .entry))) (rowAt width (now (stamps .entry)) (q .0))) ⌝ }
 {
     let base = q.0 * WIDTH;
     let mut found = p.0 == q.0;

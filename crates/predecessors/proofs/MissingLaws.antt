@@ -1,53 +1,41 @@
 -- The missing marks by a row and the tally: counts above counted turn by turn, and what they say of the definitions. n: how many desks. Assumes nothing.
 use Prim.Native.Nat.{_+_, _-_, _<_, _≤_, suc, zero, ℕ}
-use borrow.Author.Tests.{eq-eqb, le-ltb, lt-ltb, ltb-false, ltb-true, ne-eqb}
-use lib.Dec.{T-not, eqb, eqb→eq, leb, leb→le, ltb, lt→ltb, ltb→lt, nleb→lt, not-T}
+use borrow.Author.Tests.{eq-eqb, le-ltb, lt-ltb, ne-eqb}
+use lib.Dec.{T-not, eqb, eqb→eq, leb, leb→le, ltb, lt→ltb, ltb→lt, nleb→lt, not-T, nltb→le}
 use lib.ListN.{getD, length}
 use mathlib.Core.Bool.{Bool, _&&_, and-false, cond, false, not, true}
 use mathlib.Core.List.{List, [], _++_, _∷_}
 use mathlib.Core.Logic.{inl, inr}
 use mathlib.Core.Path.{_∙_, _≡_, ap, refl, sym}
-use native.Mathlib.Numerals.{add-one, one-add, sub-one}
+use native.Mathlib.Numerals.{one-add, sub-one}
 use native.Mathlib.Omega.{arith}
 use Rattle.frame.specs.declared.MarkBox.{MarkBox}
 use Rattle.frame.specs.declared.Past.{Past}
 use Rattle.frame.specs.Mark.{MarkId}
 use Rattle.causality.specs.Marks.{has, keep, tally}
 use Rattle.causality.specs.State.{Mark, ids, lacksPrevious, missing, missingEntries, previous, ready}
-use Rattle.causality.proofs.Logic.{bool-ext, eq→T, split}
+use Rattle.causality.proofs.Logic.{bool-ext, eq→T, split, T→eq, nT→eq}
 use Rattle.causality.proofs.Missing.{ready-missing}
 use Rattle.causality.proofs.Past.{Counted, prefix-has, prefix-le}
 use Rattle.causality.proofs.RowLaws.{show, shown}
-use Rattle.causality.specs.Rows.{entriesFrom, entriesOfRow}
+use Rattle.causality.specs.Rows.{entriesOfRow}
 use Rattle.rows.specs.View.{rowFn}
 use Rattle.predecessors.specs.Steps.{aboveIn, missingBy}
 use Rattle.rows.proofs.RowBytes.{entries-more, entryAt, entryIf}
+use Rattle.causality.proofs.Upto.{sum-cong, sum-more}
+use Rattle.causality.specs.inner.Upto.{countTo, sumTo}
 
 -- COUNTS ABOVE
 
-pub above-le : (k : ℕ) (r t : List ℕ) → aboveIn k r t ≤ k
-unfolding aboveIn
-above-le zero r t = omega arith
-above-le (suc k) r t = go (ltb (getD t k 0) (getD r k 0)) (above-le k r t)
-  where
-    x : ℕ
-    x = aboveIn k r t
+module _ (j m : ℕ) (r t : List ℕ) (e : m ≡ aboveIn j r t) where
+  abbrev above : ℕ → ℕ
+  above d = cond (ltb (rowFn t d) (rowFn r d)) 1 0
 
-    go : (b : Bool) → x ≤ k → (elim b as (λ z. ℕ) [ true ↦ suc x | false ↦ x ]) ≤ suc k
-    go true h = omega arith
-    go false h = omega arith
+  pub above-more : getD t j 0 < getD r j 0 → m + 1 ≡ aboveIn (j + 1) r t
+  above-more h = rw (sum-more above j, sub-one (suc j), lt-ltb (getD t j 0) (getD r j 0) h) (omega arith)
 
-pub above-start : (r t : List ℕ) → 0 ≡ aboveIn 0 r t
-unfolding aboveIn
-above-start r t = refl
-
-pub above-more : (j m : ℕ) (r t : List ℕ) → m ≡ aboveIn j r t → getD t j 0 < getD r j 0 → m + 1 ≡ aboveIn (j + 1) r t
-unfolding aboveIn
-above-more j m r t e h = rw (add-one j, add-one m, lt-ltb (getD t j 0) (getD r j 0) h, aboveIn) (ap suc e)
-
-pub above-kept : (j m : ℕ) (r t : List ℕ) → m ≡ aboveIn j r t → getD r j 0 ≤ getD t j 0 → m ≡ aboveIn (j + 1) r t
-unfolding aboveIn
-above-kept j m r t e h = rw (add-one j, le-ltb (getD t j 0) (getD r j 0) h, aboveIn) e
+  pub above-kept : getD r j 0 ≤ getD t j 0 → m ≡ aboveIn (j + 1) r t
+  above-kept h = rw (sum-more above j, sub-one (suc j), le-ltb (getD t j 0) (getD r j 0) h) (omega arith)
 
 -- MISSING MARKS
 
@@ -62,7 +50,7 @@ module _ (n : ℕ) (t : List ℕ) (d number : ℕ) (row : List ℕ) (x : ℕ) (e
   pub missing-none : number ≤ getD t (d - 1) 0 + 1 → x ≡ missingBy n t d number row
   missing-none p = rw (le-ltb (getD t (d - 1) 0) (number - 1) (omega arith)) (omega arith)
 
--- How many pass of two lists.
+-- How many of a list, and of a row's entries, pass.
 keep-both : (p : MarkId → Bool) (xs ys : List MarkId) → length (keep p (xs ++ ys)) ≡ length (keep p xs) + length (keep p ys)
 keep-both p [] ys = omega arith
 keep-both p (x ∷ xs) ys = go (p x) (keep-both p xs ys)
@@ -71,6 +59,22 @@ keep-both p (x ∷ xs) ys = go (p x) (keep-both p xs ys)
         → length (cond b (x ∷ keep p (xs ++ ys)) (keep p (xs ++ ys))) ≡ length (cond b (x ∷ keep p xs) (keep p xs)) + length (keep p ys)
     go true ih = omega arith
     go false ih = ih
+
+count-entries : (r : ℕ → ℕ) (p : MarkId → Bool) (k : ℕ) → length (keep p (entriesOfRow k r)) ≡ countTo k (λ d. ltb 0 (r d) && p (record { desk = d; number = r d }))
+unfolding sumTo
+count-entries r p zero = refl
+count-entries r p (suc k) = ap (λ (es : List MarkId). length (keep p es)) (entries-more r 1 k) ∙ keep-both p (entriesOfRow k r) (entryAt r (1 + k)) ∙ rw (one-add k) (go (ltb 0 (r (suc k))) (p e) refl (count-entries r p k))
+  where
+    e : MarkId
+    e = record { desk = suc k; number = r (suc k) }
+
+    x : ℕ
+    x = countTo k (λ d. ltb 0 (r d) && p (record { desk = d; number = r d }))
+
+    go : (a b : Bool) → p e ≡ b → length (keep p (entriesOfRow k r)) ≡ x → length (keep p (entriesOfRow k r)) + length (keep p (entryIf a (suc k) (r (suc k)))) ≡ cond (a && p e) 1 0 + x
+    go true true q ih = rw q (omega arith)
+    go true false q ih = rw q (omega arith)
+    go false b q ih = omega arith
 
 module _ (n : ℕ) (l : List Mark) (c : Counted (ids l)) (t row : List ℕ) (f : (d : ℕ) → 1 ≤ d → d ≤ n → rowFn t d ≡ tally d (ids l)) where
   abbrev absent : MarkId → Bool
@@ -86,30 +90,18 @@ module _ (n : ℕ) (l : List Mark) (c : Counted (ids l)) (t row : List ℕ) (f :
       (λ u. not-T (has e (ids l)) (λ v. let g = (prefix-le (ids l) c e v) .1 in let x = f (e .desk) lo hi in let y = ltb→lt (rowFn t (e .desk)) (e .number) u in omega arith))
 
   -- Of the entries of a row those that are not executed are the counts above the tally.
-  entries-above : (k : ℕ) → k ≤ n → length (keep absent (entriesFrom (rowFn row) 1 k)) ≡ aboveIn k row t
-  unfolding aboveIn
-  entries-above zero h = refl
-  entries-above (suc k) h =
-      ap (λ (es : List MarkId). length (keep absent es)) (entries-more (rowFn row) 1 k)
-      ∙ keep-both absent (entriesFrom (rowFn row) 1 k) (entryAt (rowFn row) (1 + k))
-      ∙ rw (one-add k, sub-one (suc k)) (go (ltb 0 (getD row k 0)) refl (ltb (getD t k 0) (getD row k 0)) refl (entries-above k (omega arith)))
+  entries-above : length (keep absent (entriesOfRow n (rowFn row))) ≡ aboveIn n row t
+  entries-above =
+      count-entries (rowFn row) absent n ∙ sum-cong n (λ d. cond (ltb 0 (rowFn row d) && absent (at d)) 1 0) (λ d. cond (ltb (rowFn t d) (rowFn row d)) 1 0) (λ d lo hi. let e = agree d lo hi in λ i. cond (e i) 1 0)
     where
-      e : MarkId
-      e = record { desk = suc k; number = getD row k 0 }
+      at : ℕ → MarkId
+      at d = record { desk = d; number = rowFn row d }
 
-      go : (a : Bool) → ltb 0 (getD row k 0) ≡ a → (b : Bool) → ltb (getD t k 0) (getD row k 0) ≡ b → length (keep absent (entriesFrom (rowFn row) 1 k)) ≡ aboveIn k row t
-          → length (keep absent (entriesFrom (rowFn row) 1 k)) + length (keep absent (entryIf a (suc k) (getD row k 0)))
-          ≡ elim b as (λ z. ℕ) [ true ↦ suc (aboveIn k row t) | false ↦ aboveIn k row t ]
-      go true p b q ih = rw (here ∙ q) (by b)
-        where
-          here : absent e ≡ ltb (getD t k 0) (getD row k 0)
-          here = rw (sub-one (suc k)) at (absent-above e (omega arith) h (ltb-true 0 (getD row k 0) p))
-
-          by : (b : Bool) → length (keep absent (entriesFrom (rowFn row) 1 k)) + length (cond b (e ∷ []) []) ≡ elim b as (λ z. ℕ) [ true ↦ suc (aboveIn k row t) | false ↦ aboveIn k row t ]
-          by true = omega arith
-          by false = omega arith
-      go false p true q ih = let x = ltb-false 0 (getD row k 0) p in let y = ltb-true (getD t k 0) (getD row k 0) q in omega arith
-      go false p false q ih = omega arith
+      agree : (d : ℕ) → 1 ≤ d → d ≤ n → (ltb 0 (rowFn row d) && absent (at d)) ≡ ltb (rowFn t d) (rowFn row d)
+      agree d lo hi = elim (split (ltb 0 (rowFn row d))) [
+        | inl u ↦ rw (T→eq (ltb 0 (rowFn row d)) u) (absent-above (at d) lo hi (ltb→lt 0 (rowFn row d) u))
+        | inr u ↦ let z = nltb→le 0 (rowFn row d) u in rw (nT→eq (ltb 0 (rowFn row d)) u) (sym (le-ltb (rowFn t d) (rowFn row d) (omega arith)))
+      ]
 
   module _ (i : MarkId) (b : MarkBox) (said : Past) (lo : 1 ≤ i .desk) (hi : i .desk ≤ n) where
     abbrev mark : Mark
@@ -137,7 +129,7 @@ module _ (n : ℕ) (l : List Mark) (c : Counted (ids l)) (t row : List ℕ) (f :
 
     pub missing-by-tally : missing l mark ≡ missingBy n t (i .desk) (i .number) row
     unfolding missing missingEntries
-    missing-by-tally = let e = entries-above n (omega arith) in let g = lacks-by-tally in λ k. e k + cond (g k) 1 0
+    missing-by-tally = let e = entries-above in let g = lacks-by-tally in λ k. e k + cond (g k) 1 0
 
     pub ready-by-tally : ready l mark ≡ eqb (missingBy n t (i .desk) (i .number) row) 0
     ready-by-tally = ready-missing l mark ∙ ap (λ (k : ℕ). eqb k 0) missing-by-tally

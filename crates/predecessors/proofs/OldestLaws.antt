@@ -1,10 +1,10 @@
 -- The search for the oldest of the marks that a row names, turn by turn: names counted, met, struck. What its place tells. Assumes nothing.
-use Prim.Native.Nat.{_-_, _<_, _≤_, suc, zero, ℕ}
-use borrow.Author.Tests.{eqb-false, lt-ltb, ltb-false, ltb-true}
-use lib.Dec.{T, eqb, eqb→eq, leb, leb→le, ltb, nleb→lt, not-T}
+use Prim.Native.Nat.{_-_, _<_, _≤_, suc, zero, ℕ, _+_}
+use borrow.Author.Tests.{eqb-false, lt-ltb, ltb-false}
+use lib.Dec.{T, eqb, eqb→eq, leb, leb→le, ltb, nleb→lt, not-T, ltb→lt}
 use lib.ListN.{getD, getD-replicate, length, length-set, replicate, set}
 use lib.Seq.{getD-set-other, getD-set-same}
-use mathlib.Core.Bool.{Bool, false, true}
+use mathlib.Core.Bool.{Bool, false, true, cond}
 use mathlib.Core.List.{List}
 use mathlib.Core.Logic.{_⊎_, inl, inr, ⊎-elim}
 use mathlib.Core.Path.{_∙_, _≡_, ap, refl, subst, sym}
@@ -15,81 +15,48 @@ use Rattle.causality.specs.Marks.{has}
 use Rattle.causality.specs.State.{ids}
 use Rattle.causality.proofs.Logic.{nT→eq, split}
 use Rattle.causality.proofs.Reach.{Sound}
-use Rattle.rows.specs.View.{Carried, nameAt, view, width}
+use Rattle.rows.specs.View.{Carried, nameAt, view, width, rowFn}
 use Rattle.predecessors.specs.Steps.{AllFrom, Oldest, StandsFrom, aboveIn}
 use Rattle.rows.proofs.Places.{not-before}
+use Rattle.causality.proofs.Upto.{count-some, sum-cong, sum-one, sum-part}
+use Rattle.causality.specs.inner.Upto.{countTo}
+use native.Mathlib.Numerals.{sub-one}
 
 -- NAMES
 
 -- How many of the first k counts of a row are no 0: so many marks it names.
-unfoldable pub namesIn : ℕ → List ℕ → ℕ
-namesIn zero r = 0
-namesIn (suc k) r = elim (ltb 0 (getD r k 0)) [ true ↦ suc (namesIn k r) | false ↦ namesIn k r ]
+abbrev pub namesIn : ℕ → List ℕ → ℕ
+namesIn k r = countTo k (λ d. ltb 0 (rowFn r d))
+
+abbrev pub one : List ℕ → ℕ → ℕ
+one r d = cond (ltb 0 (rowFn r d)) 1 0
 
 -- They are those above 0.
-pub above-names : (n k : ℕ) (r : List ℕ) → k ≤ n → aboveIn k r (replicate n 0) ≡ namesIn k r
-unfolding aboveIn namesIn
-above-names n zero r h = refl
-above-names n (suc k) r h =
-    let e : _≡_ {A = ℕ} (getD (replicate n 0) k 0) 0 = getD-replicate n k 0 0 h in
-    let t = above-names n k r (omega arith) in
-    λ i. elim (ltb (e i) (getD r k 0)) [ true ↦ suc (t i) | false ↦ t i ]
+pub above-names : (n : ℕ) (r : List ℕ) → aboveIn n r (replicate n 0) ≡ namesIn n r
+above-names n r = sum-cong n (λ d. cond (ltb (rowFn (replicate n 0) d) (rowFn r d)) 1 0) (one r) (λ d lo hi. ap (λ (x : ℕ). cond (ltb x (rowFn r d)) 1 0) (getD-replicate n (d - 1) 0 0 (omega arith)))
 
 -- No name is left.
 names-zero : (k : ℕ) (r : List ℕ) → namesIn k r ≡ 0 → (j : ℕ) → j < k → getD r j 0 ≡ 0
-unfolding namesIn
-names-zero zero r e j h = let z : ⊥ = omega arith in absurd z
-names-zero (suc k) r e j h = go (ltb 0 (getD r k 0)) refl e (λ w. names-zero k r w j)
+names-zero k r e j h = go (ltb 0 (getD r j 0)) refl (rw (sub-one (suc j)) at (sum-part (one r) k j h))
   where
-    x : ℕ
-    x = namesIn k r
-
-    go : (b : Bool) → ltb 0 (getD r k 0) ≡ b → _≡_ {A = ℕ} (elim b as (λ z. ℕ) [ true ↦ suc x | false ↦ x ]) 0 → (x ≡ 0 → j < k → getD r j 0 ≡ 0) → getD r j 0 ≡ 0
-    go true q w ih = let z : ⊥ = omega arith in absurd z
-    go false q w ih = ⊎-elim (λ y. let l = ltb-false 0 (getD r k 0) q in ap (λ (i : ℕ). getD r i 0) y ∙ (omega arith)) (λ y. ih w y) (eq-or-lt-of-le {n = j} {m = k} (omega arith))
+    go : (b : Bool) → ltb 0 (getD r j 0) ≡ b → cond b 1 0 + namesIn j r ≤ namesIn k r → getD r j 0 ≡ 0
+    go true q w = let z : ⊥ = omega arith in absurd z
+    go false q w = let l = ltb-false 0 (getD r j 0) q in omega arith
 
 -- A name is left.
 names-some : (k : ℕ) (r : List ℕ) → 0 < namesIn k r → (j : ℕ) × (j < k) × (0 < getD r j 0)
-unfolding namesIn
-names-some zero r h = let z : ⊥ = omega arith in absurd z
-names-some (suc k) r h = go (ltb 0 (getD r k 0)) refl h (names-some k r)
-  where
-    x : ℕ
-    x = namesIn k r
+names-some k r h = let x = count-some k (λ d. ltb 0 (rowFn r d)) h in let lo = x .low in let hi = x .high in (x .d - 1, omega arith, ltb→lt 0 (rowFn r (x .d)) (x .passes))
 
-    go : (b : Bool) → ltb 0 (getD r k 0) ≡ b → 0 < (elim b as (λ z. ℕ) [ true ↦ suc x | false ↦ x ]) → (0 < x → (j : ℕ) × (j < k) × (0 < getD r j 0)) → (j : ℕ) × (j < suc k) × (0 < getD r j 0)
-    go true q w ih = (k, omega arith, ltb-true 0 (getD r k 0) q)
-    go false q w ih = let y = ih w in let l = y .1 in (y .0, omega arith, y .2)
+-- A count set where there was none is one name more, and a name that is struck is one less.
+module _ (k j : ℕ) (r : List ℕ) (v : ℕ) (h : j < k) (l : j < length r) where
+  others : (d : ℕ) → 1 ≤ d → (d ≡ suc j → ⊥) → one (set r j v) d ≡ one r d
+  others d lo ne = ap (λ (x : ℕ). cond (ltb 0 x) 1 0) (getD-set-other r j (d - 1) v 0 (λ z. ne (omega arith)))
 
--- A name that is struck is one name less.
-struck-above : (k j : ℕ) (r : List ℕ) → k ≤ j → namesIn k (set r j 0) ≡ namesIn k r
-unfolding namesIn
-struck-above zero j r h = refl
-struck-above (suc k) j r h =
-    let e = getD-set-other r j k 0 0 (λ z. omega arith) in
-    let t = struck-above k j r (omega arith) in
-    λ i. elim (ltb 0 (e i)) [ true ↦ suc (t i) | false ↦ t i ]
+  pub names-one-more : getD r j 0 ≡ 0 → 0 < v → namesIn k (set r j v) ≡ suc (namesIn k r)
+  names-one-more e p = sum-one k (one r) (one (set r j v)) (suc j) (omega arith) h (rw (sub-one (suc j), getD-set-same r j v 0 l, e, lt-ltb 0 v p) refl) others
 
-struck-one : (k j : ℕ) (r : List ℕ) → j < k → j < length r → 0 < getD r j 0 → suc (namesIn k (set r j 0)) ≡ namesIn k r
-unfolding namesIn
-struck-one zero j r h l p = let z : ⊥ = omega arith in absurd z
-struck-one (suc k) j r h l p = ⊎-elim here (λ q. later q (struck-one k j r q l p)) (eq-or-lt-of-le {n = j} {m = k} (omega arith))
-  where
-    count : Bool → ℕ → ℕ
-    count b x = elim b [ true ↦ suc x | false ↦ x ]
-
-    more : (b : Bool) (x y : ℕ) → suc x ≡ y → suc (count b x) ≡ count b y
-    more true x y e = ap suc e
-    more false x y e = e
-
-    here : j ≡ k → suc (namesIn (suc k) (set r j 0)) ≡ namesIn (suc k) r
-    here q =
-        let z : getD (set r j 0) k 0 ≡ 0 = ap (λ (i : ℕ). getD (set r j 0) i 0) (sym q) ∙ getD-set-same r j 0 0 l in
-        let y : ltb 0 (getD r k 0) ≡ true = lt-ltb 0 (getD r k 0) (subst (λ (i : ℕ). 0 < getD r i 0) q p) in
-        ap (λ (x : ℕ). suc (count (ltb 0 x) (namesIn k (set r j 0)))) z ∙ ap suc (struck-above k j r (omega arith)) ∙ ap (λ (b : Bool). count b (namesIn k r)) (sym y)
-
-    later : j < k → suc (namesIn k (set r j 0)) ≡ namesIn k r → suc (namesIn (suc k) (set r j 0)) ≡ namesIn (suc k) r
-    later q t = ap (λ (x : ℕ). suc (count (ltb 0 x) (namesIn k (set r j 0)))) (getD-set-other r j k 0 0 (λ z. omega arith)) ∙ more (ltb 0 (getD r k 0)) (namesIn k (set r j 0)) (namesIn k r) t
+  names-one-less : 0 < getD r j 0 → v ≡ 0 → suc (namesIn k (set r j v)) ≡ namesIn k r
+  names-one-less p e = sym (sum-one k (one (set r j v)) (one r) (suc j) (omega arith) h (rw (sub-one (suc j), getD-set-same r j v 0 l, e, lt-ltb 0 (getD r j 0) p) refl) (λ d lo ne. sym (others d lo ne)))
 
 -- PLACES
 
@@ -174,7 +141,7 @@ module _ (count : ℕ) (ds ns row₀ : List ℕ) where
     left-struck o lo hi e pos = record {
       turns = omega arith;
       long = length-set row d 0 ∙ l;
-      names = let x = struck-one width d row (omega arith) (omega arith) pos in let y = w .names in omega arith;
+      names = let x = names-one-less width d row 0 (omega arith) (omega arith) pos refl in let y = w .names in omega arith;
       each = λ j h. ⊎-elim (here j h) (other j h) (either j);
       last = before;
     }
@@ -215,14 +182,6 @@ module _ (count : ℕ) (ds ns row₀ : List ℕ) where
 
   pub left-end : (row : List ℕ) (left p : ℕ) → Left count ds ns row₀ row left p → p ≡ 0 → Oldest ds ns row₀ count p
   left-end row left p w z = record { within = w .turns; from = λ o. let x : ⊥ = omega arith in absurd x; last = w .last }
-
--- There is one such place only.
-not-later : (ds ns row : List ℕ) (count r r′ : ℕ) → Oldest ds ns row count r → Oldest ds ns row count r′ → r ≤ r′
-not-later ds ns row count zero r′ o o′ = omega arith
-not-later ds ns row count (suc r) r′ o o′ = o′ .last (suc r) (o .within) (o .from (omega arith))
-
-pub one-oldest : (ds ns row : List ℕ) (count r r′ : ℕ) → Oldest ds ns row count r → Oldest ds ns row count r′ → r ≡ r′
-one-oldest ds ns row count r r′ o o′ = omega (arith, not-later ds ns row count r r′ o o′, not-later ds ns row count r′ r o′ o)
 
 -- No mark that a row names is among those before the place of the oldest, whatever their stamps.
 pub oldest-before : (ds ns row : List ℕ) (count r : ℕ) → Oldest ds ns row count r → (bs : ℕ → Carried) (ss : List ℕ) → Sound (view width count ds ns bs ss)

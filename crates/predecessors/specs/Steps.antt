@@ -1,14 +1,15 @@
 -- What the questions about predecessors come to, over lent rows and arrays. Inner: need not be believed.
-use mathlib.Core.Bool.{Bool, true, false, not, _&&_, _||_, cond}
+use mathlib.Core.Bool.{Bool, not, _&&_, _||_, cond}
 use mathlib.Core.Path.{_≡_}
 use mathlib.Core.List.{List}
-use Prim.Native.Nat.{ℕ, zero, suc, max, _+_, _-_, _*_, _≤_, _<_}
+use Prim.Native.Nat.{ℕ, suc, max, _+_, _-_, _*_, _≤_, _<_}
 use lib.Dec.{eqb, leb, ltb}
 use lib.ListN.{length, getD, take}
 use Rattle.frame.specs.Mark.{MarkId}
 use Rattle.causality.specs.Marks.{tally}
 use Rattle.causality.specs.inner.Passes.{under}
-use Rattle.rows.specs.View.{Carried, width, rowFn, nameAt, view, someReached, namesDown}
+use Rattle.causality.specs.inner.Upto.{allTo, countTo, someReached, sumTo}
+use Rattle.rows.specs.View.{Carried, width, rowFn, nameAt, view, namesDown}
 
 -- A row joined with row p of the stamps: at each desk the greater count.
 pub record Joined (ss : List ℕ) (p : ℕ) (before after : List ℕ) : Type 0 where
@@ -26,9 +27,8 @@ abbrev pub TallyAt : List ℕ → List ℕ → List ℕ → ℕ → Type 0
 TallyAt t ds ns p = (length t ≡ width) × ((d : ℕ) → 1 ≤ d → d ≤ width → rowFn t d ≡ tally d (namesDown p ds ns))
 
 -- Two rows together count, of each of the first k desks, what the tally counts.
-unfoldable pub allCounted : ℕ → List ℕ → List ℕ → List ℕ → Bool
-allCounted zero r s t = true
-allCounted (suc k) r s t = leb (getD t k 0) (max (getD r k 0) (getD s k 0)) && allCounted k r s t
+abbrev pub allCounted : ℕ → List ℕ → List ℕ → List ℕ → Bool
+allCounted k r s t = allTo k (λ d. leb (rowFn t d) (max (rowFn r d) (rowFn s d)))
 
 -- The pass of the trace down to a place, the one asked for or an earlier one, where the rows are final: they count every mark before it.
 pub record Settled (ds ns ss entries : List ℕ) (at : ℕ) (before : List ℕ) (to : ℕ) (after : List ℕ) : Type 0 where
@@ -39,9 +39,8 @@ pub record Settled (ds ns ss entries : List ℕ) (at : ℕ) (before : List ℕ) 
   pub covers : (d : ℕ) → 1 ≤ d → d ≤ width → tally d (namesDown place ds ns) ≤ max (rowFn entries d) (rowFn after d)
 
 -- The greater counts of two rows, added up over the first k desks.
-unfoldable pub greaterSum : ℕ → List ℕ → List ℕ → ℕ
-greaterSum zero r s = 0
-greaterSum (suc k) r s = max (getD r k 0) (getD s k 0) + greaterSum k r s
+abbrev pub greaterSum : ℕ → List ℕ → List ℕ → ℕ
+greaterSum k r s = sumTo k (λ d. max (rowFn r d) (rowFn s d))
 
 -- A mark stands at a place from p on, of the first so many.
 pub record StandsFrom (ds ns : List ℕ) (count p : ℕ) (i : MarkId) : Type 0 where
@@ -61,9 +60,8 @@ pub record Oldest (ds ns row : List ℕ) (count r : ℕ) : Type 0 where
   pub last : (p : ℕ) → p ≤ count → AllFrom ds ns row count p → p ≤ r
 
 -- How many of the first k counts of the one row are above those of the other.
-unfoldable pub aboveIn : ℕ → List ℕ → List ℕ → ℕ
-aboveIn zero r t = 0
-aboveIn (suc k) r t = elim (ltb (getD t k 0) (getD r k 0)) [ true ↦ suc (aboveIn k r t) | false ↦ aboveIn k r t ]
+abbrev pub aboveIn : ℕ → List ℕ → List ℕ → ℕ
+aboveIn k r t = countTo k (λ d. ltb (rowFn t d) (rowFn r d))
 
 -- The missing marks by a row of n counts and the tally: those that the row names and the tally does not count, and the desk's previous mark where it
 -- is neither counted nor named.
@@ -73,4 +71,4 @@ missingBy n tally d number row =
 
 -- The false-stamp test by rows: an entry precedes another, or the previous mark of the desk neither is an entry nor precedes one.
 abbrev pub falseBy : List ℕ → List ℕ → ℕ → ℕ → Bool
-falseBy entries below d n = someReached width entries below || (ltb 1 n && ltb (max (getD entries (d - 1) 0) (getD below (d - 1) 0)) (n - 1))
+falseBy entries below d n = someReached width (rowFn entries) (rowFn below) || (ltb 1 n && ltb (max (getD entries (d - 1) 0) (getD below (d - 1) 0)) (n - 1))

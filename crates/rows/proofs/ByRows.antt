@@ -1,11 +1,10 @@
 -- What the row tests of the code say of the definitions: ready, false stamps, stamps of rows. n: how many desks. Assumes nothing.
 use Prim.Native.Nat.{_+_, _-_, _<_, _≤_, max, suc, zero, ℕ}
-use lib.Dec.{T, leb, leb→le, le→leb, ltb, ltb→lt, lt→ltb, nleb→lt}
+use lib.Dec.{T, leb, ltb, ltb→lt}
 use lib.ListN.{getD}
-use mathlib.Core.Bool.{Bool, _&&_, _||_, false, not, true}
+use mathlib.Core.Bool.{Bool, _&&_, _||_, false, true}
 use mathlib.Core.List.{List, [], _∷_}
-use mathlib.Core.Logic.{_⊎_, inl, inr}
-use mathlib.Core.Path.{_∙_, _≡_, ap, refl, subst, sym}
+use mathlib.Core.Path.{_∙_, _≡_, ap, refl, sym}
 use native.Mathlib.Numerals.{sub-one}
 use native.Mathlib.Omega.{arith}
 use Rattle.frame.specs.declared.MarkBox.{MarkBox}
@@ -13,14 +12,15 @@ use Rattle.frame.specs.declared.Past.{Past}
 use Rattle.frame.specs.Mark.{MarkId}
 use Rattle.causality.specs.Marks.{All, any, has}
 use Rattle.causality.specs.State.{Mark, falseEntries, ready}
-use Rattle.causality.proofs.Lists.{any-find, any-of}
-use Rattle.causality.proofs.Logic.{and-fst, and-intro, and-snd, bool-ext, or-cases, or-inl, or-inr, split}
+use Rattle.causality.proofs.Logic.{and-cong}
 use Rattle.causality.proofs.Numbers.{Strict}
 use Rattle.causality.proofs.Reach.{Sound}
-use Rattle.causality.proofs.RowLaws.{entries-of-row, false-by-rows, row-of-entries, show, shown}
+use Rattle.causality.proofs.RowLaws.{entries-of-row, false-by-rows, row-of-entries, shown, any-entries}
 use Rattle.causality.specs.Rows.{entriesFrom, entriesOfRow}
 use Rattle.causality.specs.inner.Passes.{rowOf, under}
-use Rattle.rows.specs.View.{rowFn, someReached}
+use Rattle.rows.specs.View.{rowFn}
+use Rattle.causality.specs.inner.Upto.{someReached}
+use Rattle.causality.proofs.Upto.{any-to-cong}
 
 -- A row that is known count by count.
 pub row-at : (n : ℕ) (r : List ℕ) (f : ℕ → ℕ) → ((j : ℕ) → j < n → getD r j 0 ≡ f (suc j)) → (d : ℕ) → 1 ≤ d → d ≤ n → rowFn r d ≡ f d
@@ -60,93 +60,16 @@ under-cong n (m ∷ older) a s s′ r r′ f g d p q =
 
 -- FALSE STAMPS
 
--- A desk at which the one row has a count that the other reaches.
-record Reached (k : ℕ) (s r : List ℕ) : Type 0 where
-  d : ℕ
-  low : 1 ≤ d
-  high : d ≤ k
-  some-count : 1 ≤ rowFn s d
-  reached : rowFn s d ≤ rowFn r d
-
-reached-find : (k : ℕ) (s r : List ℕ) → T (someReached k s r) → Reached k s r
-reached-find zero s r t = absurd t
-reached-find (suc k) s r t = go (or-cases (a && b) (someReached k s r) t) (reached-find k s r)
-  where
-    a : Bool
-    a = ltb 0 (getD s k 0)
-
-    b : Bool
-    b = leb (getD s k 0) (getD r k 0)
-
-    go : T (a && b) ⊎ T (someReached k s r) → (T (someReached k s r) → Reached k s r) → Reached (suc k) s r
-    go (inl u) ih = record {
-      d = suc k;
-      low = omega arith;
-      high = omega arith;
-      some-count = rw (sub-one (suc k)) (ltb→lt 0 (getD s k 0) (and-fst a b u));
-      reached = rw (sub-one (suc k)) (leb→le (getD s k 0) (getD r k 0) (and-snd a b u));
-    }
-    go (inr u) ih = let x = ih u in let h = x .high in record { d = x .d; low = x .low; high = omega arith; some-count = x .some-count; reached = x .reached }
-
-reached-of : (k : ℕ) (s r : List ℕ) → Reached k s r → T (someReached k s r)
-reached-of zero s r x = let a = x .low in let b = x .high in let z : ⊥ = omega arith in absurd z
-reached-of (suc k) s r x = go (split (leb (x .d) k)) (reached-of k s r)
-  where
-    a : Bool
-    a = ltb 0 (getD s k 0)
-
-    b : Bool
-    b = leb (getD s k 0) (getD r k 0)
-
-    go : T (leb (x .d) k) ⊎ T (not (leb (x .d) k)) → (Reached k s r → T (someReached k s r)) → T ((a && b) || someReached k s r)
-    go (inl u) ih = or-inr (a && b) (someReached k s r) (ih (record { d = x .d; low = x .low; high = leb→le (x .d) k u; some-count = x .some-count; reached = x .reached }))
-    go (inr u) ih =
-        let v = nleb→lt (x .d) k u in
-        let h = x .high in
-        let e : x .d - 1 ≡ k = omega arith in
-        or-inl (a && b) (someReached k s r) (and-intro a b (lt→ltb 0 (getD s k 0) (rw e at (x .some-count))) (le→leb (getD s k 0) (getD r k 0) (rw e at (x .reached))))
-
-some-reached : (n : ℕ) (s r : List ℕ) (u : ℕ → ℕ) → ((d : ℕ) → 1 ≤ d → d ≤ n → 1 ≤ rowFn s d → leb (rowFn s d) (rowFn r d) ≡ leb (rowFn s d) (u d))
-    → any (λ e. leb (e .number) (u (e .desk))) (entriesOfRow n (rowFn s)) ≡ someReached n s r
-some-reached n s r u f = bool-ext (any p es) (someReached n s r) there back
-  where
-    p : MarkId → Bool
-    p e = leb (e .number) (u (e .desk))
-
-    es : List MarkId
-    es = entriesOfRow n (rowFn s)
-
-    there : T (any p es) → T (someReached n s r)
-    there t =
-        let x = any-find p es t in
-        let d = x .0 .desk in
-        let w = shown (rowFn s) 1 n (x .0) (x .1) in
-        let lo = w .low in
-        let hi : d ≤ n = let h = w .high in omega arith in
-        let v = w .value in
-        let q = w .pos in
-        let some : 1 ≤ rowFn s d = omega arith in
-        let g : T (leb (rowFn s d) (u d)) = subst (λ (k : ℕ). T (leb k (u d))) v (x .2) in
-        reached-of n s r (record { d = d; low = lo; high = hi; some-count = some; reached = leb→le (rowFn s d) (rowFn r d) (subst T (sym (f d lo hi some)) g) })
-
-    back : T (someReached n s r) → T (any p es)
-    back t =
-        let x = reached-find n s r t in
-        let e : MarkId = record { desk = x .d; number = rowFn s (x .d) } in
-        let h = x .high in
-        any-of p es e (show (rowFn s) 1 n e (record { low = x .low; high = omega arith; value = refl; pos = x .some-count }))
-        (subst T (f (x .d) (x .low) (x .high) (x .some-count)) (le→leb (rowFn s (x .d)) (rowFn r (x .d)) (x .reached)))
-
 -- The false-stamp test by the row of the stamp and a row that tells of the entries and of the previous mark what is under the stamp.
 pub false-by-row : (n : ℕ) (l : List Mark) → Sound l → All (λ m. (1 ≤ m .id .desk) × (m .id .desk ≤ n)) l → (row below : List ℕ)
     → ((d : ℕ) → 1 ≤ d → d ≤ n → 1 ≤ rowFn row d → leb (rowFn row d) (rowFn below d) ≡ leb (rowFn row d) (under l (rowFn row) (λ d. 0) d)) → (i : MarkId) (b : MarkBox) (said : Past) → 1 ≤ i .desk → i .desk ≤ n
     → (1 < i .number → ltb (max (rowFn row (i .desk)) (rowFn below (i .desk))) (i .number - 1) ≡ ltb (max (rowFn row (i .desk)) (under l (rowFn row) (λ d. 0) (i .desk))) (i .number - 1))
     → T (ready l (record { id = i; extent = b; stamp = entriesOfRow n (rowFn row); past = said }))
     → falseEntries l (record { id = i; extent = b; stamp = entriesOfRow n (rowFn row); past = said })
-    ≡ (someReached n row below || (ltb 1 (i .number) && ltb (max (rowFn row (i .desk)) (rowFn below (i .desk))) (i .number - 1)))
+    ≡ (someReached n (rowFn row) (rowFn below) || (ltb 1 (i .number) && ltb (max (rowFn row (i .desk)) (rowFn below (i .desk))) (i .number - 1)))
 false-by-row n l s ds row below f i b said lo hi f′ t =
     false-by-rows l s (record { id = i; extent = b; stamp = es; past = said }) (λ e te. shown (rowFn row) 1 n e te .pos) t
-    ∙ (let a = some-reached n row below u (λ d p q w. f d p q w ∙ ap (leb (rowFn row d)) (g d p q)) in λ k. a k || second k)
+    ∙ (λ k. first k || second k)
   where
     es : List MarkId
     es = entriesOfRow n (rowFn row)
@@ -157,9 +80,10 @@ false-by-row n l s ds row below f i b said lo hi f′ t =
     g : (d : ℕ) → 1 ≤ d → d ≤ n → under l (rowFn row) (λ d. 0) d ≡ u d
     g d p q = under-cong n l ds (rowFn row) (rowOf es) (λ d. 0) (λ d. 0) (λ d p q. sym (row-of-entries n (rowFn row) d p q)) (λ d p q. refl) d p q
 
-    and-cong : (a b c : Bool) → (T a → b ≡ c) → (a && b) ≡ (a && c)
-    and-cong true b c h = h tt
-    and-cong false b c h = refl
+    -- The test of the entries is one of the two rows.
+    first : any (λ e. leb (e .number) (u (e .desk))) es ≡ someReached n (rowFn row) (rowFn below)
+    first = any-entries n (rowFn row) (λ e. leb (e .number) (u (e .desk))) ∙ any-to-cong n (λ d. ltb 0 (rowFn row d) && leb (rowFn row d) (u d)) (λ d. ltb 0 (rowFn row d) && leb (rowFn row d) (rowFn below d))
+        (λ d p q. and-cong (ltb 0 (rowFn row d)) (leb (rowFn row d) (u d)) (leb (rowFn row d) (rowFn below d)) (λ w. sym (f d p q (ltb→lt 0 (rowFn row d) w) ∙ ap (leb (rowFn row d)) (g d p q))))
 
     m : ℕ
     m = i .number

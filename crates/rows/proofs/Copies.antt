@@ -1,12 +1,10 @@
--- Loops that compare rows and search places, turn by turn. Assumes nothing.
-use mathlib.Core.Path.{_≡_, refl, sym, ap, _∙_, subst}
+-- The loop that searches places, turn by turn. Assumes nothing.
+use mathlib.Core.Path.{_≡_, refl, sym, ap, _∙_}
 use mathlib.Core.Bool.{true, false, and-false}
 use mathlib.Core.List.{List, [], _∷_}
-use mathlib.Core.Logic.{⊎-elim}
 use mathlib.Core.Option.{some}
-use Prim.Native.Nat.{ℕ, zero, suc, _+_, _-_, _≤_, _<_}
-use native.Mathlib.Nat.{eq-or-lt-of-le}
-use native.Mathlib.Numerals.{add-one, sub-one}
+use Prim.Native.Nat.{ℕ, zero, suc, _-_, _≤_, _<_}
+use native.Mathlib.Numerals.{sub-one}
 use native.Mathlib.Omega.{arith}
 use borrow.Author.Tests.{lt-ltb, le-ltb, eq-eqb, ne-eqb}
 use lib.Dec.{eqb}
@@ -14,21 +12,7 @@ use lib.ListN.{getD}
 use Rattle.frame.specs.Mark.{MarkId}
 use Rattle.causality.specs.Marks.{same, find}
 use Rattle.causality.specs.State.{Mark, markId}
-use Rattle.rows.specs.View.{Carried, rowFn, view, markAt, placeAt, sameCounts}
-
--- COMPARE
-
-module _ (a b : List ℕ) where
-  pub same-more : (j : ℕ) → sameCounts j (rowFn a) (rowFn b) ≡ true → getD a j 0 ≡ getD b j 0 → sameCounts (j + 1) (rowFn a) (rowFn b) ≡ true
-  same-more j h e = rw (add-one j, sub-one (suc j), eq-eqb (getD a j 0) (getD b j 0) e, h) refl
-
-  pub same-no : (k j : ℕ) → j < k → (getD a j 0 ≡ getD b j 0 → ⊥) → sameCounts k (rowFn a) (rowFn b) ≡ false
-  same-no zero j h e = let z : ⊥ = omega arith in absurd z
-  same-no (suc k) j h e = ⊎-elim
-      (λ q. rw (sub-one (suc k), ne-eqb (getD a k 0) (getD b k 0) (λ x. e (subst (λ (i : ℕ). getD a i 0 ≡ getD b i 0) (sym q) x))) refl)
-      (λ q. rw (same-no k j q e) (and-false (eqb (rowFn a (suc k)) (rowFn b (suc k))))) (eq-or-lt-of-le {n = j} {m = k} (omega arith))
-
--- SEARCH
+use Rattle.rows.specs.View.{Carried, view, markAt, placeAt}
 
 -- The mark of the name, if any, is among the first p.
 pub record Below (n count desk number : ℕ) (ds ns : List ℕ) (p : ℕ) : Type 0 where

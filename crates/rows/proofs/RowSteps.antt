@@ -4,20 +4,22 @@ use borrow.Author.Tests.{le-leb, le-ltb, leb-false, leb-true, lt-leb, lt-ltb}
 use lib.Dec.{leb, ltb}
 use lib.ListN.{getD, length, length-set, set, take}
 use lib.Seq.{getD-set-other, getD-set-same}
-use mathlib.Core.Bool.{Bool, _&&_, _||_, and-false, false, or-true, true}
+use mathlib.Core.Bool.{Bool, _&&_, _||_, and-false, false, true}
 use mathlib.Core.List.{List, [], _∷_, _++_}
 use mathlib.Core.Logic.{_⊎_, inl, inr, ⊎-elim}
 use mathlib.Core.Path.{_∙_, _≡_, ap, refl, subst, sym}
 use native.Mathlib.Nat.{eq-or-lt-of-le}
-use native.Mathlib.Numerals.{add-one, sub-one}
+use native.Mathlib.Numerals.{sub-one}
 use native.Mathlib.Omega.{arith}
 use Rattle.causality.specs.Marks.{All}
 use Rattle.causality.specs.State.{Mark}
 use Rattle.causality.specs.inner.Passes.{rowOf, under}
 use Rattle.causality.proofs.RowLaws.{row-of-entries}
 use Rattle.causality.specs.Rows.{entriesOfRow}
-use Rattle.rows.specs.View.{Carried, Named, markAt, rowAt, rowFn, someReached, view}
+use Rattle.rows.specs.View.{Carried, Named, markAt, rowAt, rowFn, view}
 use Rattle.rows.proofs.ByRows.{row-at, under-cong}
+use Rattle.causality.specs.inner.Upto.{someReached}
+use Rattle.causality.proofs.Upto.{any-more, any-yes}
 
 -- The first j of a row's n counts are those of f, the later ones are as at the start.
 pub record Passed (n : ℕ) (f : ℕ → ℕ) (r₀ r : List ℕ) (j : ℕ) : Type 0 where
@@ -29,15 +31,6 @@ pub record Passed (n : ℕ) (f : ℕ → ℕ) (r₀ r : List ℕ) (j : ℕ) : Ty
 module _ (n : ℕ) (f : ℕ → ℕ) (r₀ : List ℕ) where
   pub passed-none : length r₀ ≡ n → Passed n f r₀ r₀ 0
   passed-none e = record { turns = omega arith; long = e; passed = λ k h. let z : ⊥ = omega arith in absurd z; rest = λ k h. refl }
-
-  -- A turn that leaves the count at j.
-  pub passed-kept : (r r′ : List ℕ) (j : ℕ) → Passed n f r₀ r j → j < n → r′ ≡ r → (getD r j 0 ≡ getD r₀ j 0 → getD r j 0 ≡ f j) → Passed n f r₀ r′ (j + 1)
-  passed-kept r r′ j w h p e = rw p (record {
-    turns = omega arith;
-    long = w .long;
-    passed = λ k l. ⊎-elim (λ q. ap (λ (i : ℕ). getD r i 0) q ∙ e (w .rest j (omega arith)) ∙ ap f (sym q)) (λ q. w .passed k q) (eq-or-lt-of-le {n = k} {m = j} (omega arith));
-    rest = λ k l. w .rest k (omega arith);
-  })
 
   -- A turn that stores one.
   pub passed-set : (r r′ : List ℕ) (j v : ℕ) → Passed n f r₀ r j → j < n → r′ ≡ set r j v → (getD r j 0 ≡ getD r₀ j 0 → v ≡ f j) → Passed n f r₀ r′ (j + 1)
@@ -55,28 +48,19 @@ module _ (n : ℕ) (f : ℕ → ℕ) (r₀ : List ℕ) where
   passed-all r j w h k l = w .passed k (omega arith)
 
 -- The test of two rows, count by count: a count of s is no 0 and at most that of r.
-pub reached-more : (j : ℕ) (s r : List ℕ) → someReached j s r ≡ false → (getD s j 0 ≤ 0) ⊎ (getD r j 0 < getD s j 0) → someReached (j + 1) s r ≡ false
-reached-more j s r e (inl h) = rw (add-one j, le-ltb 0 (getD s j 0) h, e) refl
-reached-more j s r e (inr h) = rw (add-one j, lt-leb (getD s j 0) (getD r j 0) h, and-false, e) refl
+module _ (s r : List ℕ) where
+  abbrev reaches : ℕ → Bool
+  reaches d = ltb 0 (rowFn s d) && leb (rowFn s d) (rowFn r d)
 
-some-reached : (n j : ℕ) (s r : List ℕ) → j < n → 0 < getD s j 0 → getD s j 0 ≤ getD r j 0 → someReached n s r ≡ true
-some-reached zero j s r h p l = let z : ⊥ = omega arith in absurd z
-some-reached (suc n) j s r h p l = ⊎-elim here (λ q. ap (λ (b : Bool). t || b) (some-reached n j s r q p l) ∙ or-true t) (eq-or-lt-of-le {n = j} {m = n} (omega arith))
-  where
-    t : Bool
-    t = ltb 0 (getD s n 0) && leb (getD s n 0) (getD r n 0)
+  pub reached-more : (j : ℕ) → someReached j (rowFn s) (rowFn r) ≡ false → (getD s j 0 ≤ 0) ⊎ (getD r j 0 < getD s j 0) → someReached (j + 1) (rowFn s) (rowFn r) ≡ false
+  reached-more j e (inl h) = any-more reaches j ∙ rw (sub-one (suc j), le-ltb 0 (getD s j 0) h, e) refl
+  reached-more j e (inr h) = any-more reaches j ∙ rw (sub-one (suc j), lt-leb (getD s j 0) (getD r j 0) h, and-false, e) refl
 
-    here : j ≡ n → someReached (suc n) s r ≡ true
-    here q =
-        let p′ : 0 < getD s n 0 = subst (λ (i : ℕ). 0 < getD s i 0) q p in
-        let l′ : getD s n 0 ≤ getD r n 0 = subst (λ (i : ℕ). getD s i 0 ≤ getD r i 0) q l in
-        rw (lt-ltb 0 (getD s n 0) p′, le-leb (getD s n 0) (getD r n 0) l′) refl
+  pub reached-yes : (n j : ℕ) (b : Bool) → j < n → 0 < getD s j 0 → getD s j 0 ≤ getD r j 0 → true ≡ (someReached n (rowFn s) (rowFn r) || b)
+  reached-yes n j b h p l = sym (ap (λ (a : Bool). a || b) (any-yes reaches n j h (rw (sub-one (suc j), lt-ltb 0 (getD s j 0) p, le-leb (getD s j 0) (getD r j 0) l) refl)))
 
-pub reached-yes : (n j : ℕ) (s r : List ℕ) (b : Bool) → j < n → 0 < getD s j 0 → getD s j 0 ≤ getD r j 0 → true ≡ (someReached n s r || b)
-reached-yes n j s r b h p l = sym (ap (λ (a : Bool). a || b) (some-reached n j s r h p l))
-
-pub reached-no : (n j : ℕ) (s r : List ℕ) (a b : Bool) → j ≡ n → someReached j s r ≡ false → a ≡ b → a ≡ (someReached n s r || b)
-reached-no n j s r a b q e p = p ∙ sym (ap (λ (c : Bool). c || b) (subst (λ (i : ℕ). someReached i s r ≡ false) q e))
+  pub reached-no : (n j : ℕ) (a b : Bool) → j ≡ n → someReached j (rowFn s) (rowFn r) ≡ false → a ≡ b → a ≡ (someReached n (rowFn s) (rowFn r) || b)
+  reached-no n j a b q e p = p ∙ sym (ap (λ (c : Bool). c || b) (subst (λ (i : ℕ). someReached i (rowFn s) (rowFn r) ≡ false) q e))
 
 -- Mark number n of a desk is counted by the greater of two counts.
 pub counted-first : (n a b : ℕ) → n ≤ a → true ≡ leb n (max a b)

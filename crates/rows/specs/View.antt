@@ -1,11 +1,11 @@
 -- Arrays as marks: rows of counts, the mark in a slot, the marks newest first. A desk's executed marks are laid out so, and its waiting ones.
 use mathlib.Core.Path.{_≡_}
-use mathlib.Core.Bool.{Bool, true, false, _&&_, _||_}
+use mathlib.Core.Bool.{Bool, true, false}
 use mathlib.Core.List.{List, [], _∷_}
 use mathlib.Core.Logic.{_⊎_}
 use mathlib.Core.Option.{Option, none, some}
 use Prim.Native.Nat.{ℕ, zero, suc, _+_, _-_, _*_, _≤_, _<_}
-use lib.Dec.{leb, ltb, eqb}
+use lib.Dec.{ltb, eqb}
 use lib.ListN.{length, getD}
 use Rattle.frame.specs.Mark.{MarkId, desks}
 use Rattle.frame.specs.declared.MarkBox.{MarkBox}
@@ -14,6 +14,7 @@ use Rattle.frame.specs.declared.Past.the-variants.{Unsaid, Said}
 use Rattle.causality.specs.State.{Mark}
 use Rattle.causality.specs.Rows.{entriesOfRow}
 use Rattle.rows.specs.declared.Held.{Held}
+use Rattle.causality.specs.inner.Upto.{allTo}
 
 -- How many counts a row has: one for each desk.
 abbrev pub width : ℕ
@@ -84,19 +85,13 @@ view n (suc p) ds ns bs ss = markAt n ds ns bs ss p ∷ view n p ds ns bs ss
 unfoldable pub Named : ℕ → ℕ → List ℕ → Type 0
 Named n count ds = (p : ℕ) → p < count → (1 ≤ getD ds p 0) × (getD ds p 0 ≤ n)
 
--- One of the first k counts of the one row is no 0 and at most that of the other.
-abbrev pub someReached : ℕ → List ℕ → List ℕ → Bool
-someReached zero s r = false
-someReached (suc k) s r = (ltb 0 (getD s k 0) && leb (getD s k 0) (getD r k 0)) || someReached k s r
-
 -- The mark at a place below the count, or none.
 unfoldable pub placeAt : ℕ → ℕ → ℕ → List ℕ → List ℕ → (ℕ → Carried) → List ℕ → Option Mark
 placeAt n count p ds ns bs ss = elim (ltb p count) [ true ↦ some (markAt n ds ns bs ss p) | false ↦ none ]
 
 -- Two rows have the same counts for the first k desks.
 abbrev pub sameCounts : ℕ → (ℕ → ℕ) → (ℕ → ℕ) → Bool
-sameCounts zero r s = true
-sameCounts (suc k) r s = eqb (r (suc k)) (s (suc k)) && sameCounts k r s
+sameCounts k r s = allTo k (λ d. eqb (r d) (s d))
 
 -- An array of n numbers of which those from the k-th on are zero.
 pub record ZeroFrom (xs : List ℕ) (n k : ℕ) : Type 0 where

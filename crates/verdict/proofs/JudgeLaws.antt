@@ -1,5 +1,5 @@
 -- What the tests of Receive and the row functions found, in the definitions' terms. n: how many desks. Assumes nothing.
-use Prim.Native.Nat.{_+_, _-_, _<_, _≤_, max, suc, zero, ℕ}
+use Prim.Native.Nat.{_-_, _<_, _≤_, max, suc, zero, ℕ}
 use lib.Dec.{T, T-not, eqb, eqb→eq, leb, leb→le, le→leb, ltb, ltb→lt, lt→ltb, nleb→lt, not-T}
 use lib.ListN.{getD, replicate, set, take}
 use lib.Seq.{getD-set-other}
@@ -20,11 +20,11 @@ use Rattle.causality.proofs.Lists.{all-map}
 use Rattle.causality.proofs.Logic.{and-fst, and-intro, and-snd, bool-ext, eq→T, nT→eq, split}
 use Rattle.causality.proofs.Past.{prefix-has, prefix-le}
 use Rattle.causality.proofs.Reach.{Follows, Sound, follows-of, reckoning-le, sound-counted}
-use Rattle.causality.proofs.RowCounts.{reckoning-row, rowSum, sum-cong, tally-other}
+use Rattle.causality.proofs.RowCounts.{reckoning-row, tally-other}
 use Rattle.causality.proofs.RowLaws.{row-of-entries, under-out, under-final}
 use Rattle.causality.specs.Rows.{entriesOfRow}
 use Rattle.causality.specs.inner.Passes.{rowOf, under}
-use Rattle.rows.specs.View.{Carried, Named, namesDown, pastFrom, rowFn, someReached, view}
+use Rattle.rows.specs.View.{Carried, Named, namesDown, pastFrom, rowFn, view}
 use Rattle.rows.proofs.Slots.{zeros}
 use Rattle.rows.proofs.Arrays.{sound-below, view-length}
 use Rattle.rows.proofs.ByRows.{false-by-row, under-cong}
@@ -32,6 +32,8 @@ use Rattle.rows.proofs.Places.{has-more, ids-names, named-has}
 use Rattle.rows.proofs.RowSteps.{named-desks, named-less, pass-rest}
 use Rattle.predecessors.specs.Steps.{greaterSum}
 use Rattle.verdict.specs.Judgement.{pastKept}
+use Rattle.causality.proofs.Upto.{sum-cong}
+use Rattle.causality.specs.inner.Upto.{someReached}
 
 -- Of two tests of which one is enough, the first failed: the second tells.
 pub second-tells : (x a b : Bool) → a ≡ false → x ≡ b → x ≡ (a || b)
@@ -94,15 +96,6 @@ tally-none : (d : ℕ) (l : List Mark) → All (λ m. d ≡ m .id .desk → ⊥)
 tally-none d [] a = refl
 tally-none d (m ∷ l) a = tally-other d (m .id) (ids l) (a .0) ∙ tally-none d l (a .1)
 
--- The greater counts of two rows, added up.
-row-sum : (n : ℕ) (row below : List ℕ) → rowSum n (λ d. max (rowFn row d) (rowFn below d)) ≡ greaterSum n row below
-unfolding greaterSum
-row-sum zero row below = refl
-row-sum (suc n) row below =
-    let e = sub-one (suc n) in
-    let r = row-sum n row below in
-    λ i. max (getD row (e i) 0) (getD below (e i) 0) + r i
-
 -- A trace from an empty row over the marks of arrays that stopped at a place: what its row tells of a mark with its stamp as a row.
 module _ (n count to : ℕ) (ds ns : List ℕ) (bs : ℕ → Carried) (ss : List ℕ) (f : Named n count ds) (le : to ≤ count) (row below : List ℕ)
     (g : (j : ℕ) → j < n → getD below j 0 ≡ under (take (count - to) (view n count ds ns bs ss)) (rowFn row) (rowFn (replicate n 0)) (suc j)) (s : Sound (view n count ds ns bs ss)) where
@@ -134,7 +127,7 @@ module _ (n count to : ℕ) (ds ns : List ℕ) (bs : ℕ → Carried) (ss : List
         → ((j : ℕ) → j < n → 0 < getD row j 0 → getD asked j 0 ≡ getD row j 0)
         → (rowFn row (i .desk) ≡ 0 → 1 < i .number → rowFn asked (i .desk) ≡ i .number - 1)
         → ((j : ℕ) → j < n → 0 < getD asked j 0 → has (record { desk = suc j; number = getD asked j 0 }) (ids first) ≡ false)
-        → (r : Bool) → r ≡ (someReached n row below || (ltb 1 (i .number) && ltb (max (rowFn row (i .desk)) (rowFn below (i .desk))) (i .number - 1)))
+        → (r : Bool) → r ≡ (someReached n (rowFn row) (rowFn below) || (ltb 1 (i .number) && ltb (max (rowFn row (i .desk)) (rowFn below (i .desk))) (i .number - 1)))
         → T (ready l (mark said)) → r ≡ falseEntries l (mark said)
     false-found asked kept prev none r e t = e ∙ sym (false-by-row n l s named-all row below entry i b said lo hi second t)
       where
@@ -201,7 +194,7 @@ module _ (n count to : ℕ) (ds ns : List ℕ) (bs : ℕ → Carried) (ss : List
       pub reckoned-found : 1 ≤ i .number → has i (ids l) ≡ false → T (ready l (mark said)) → falseEntries l (mark said) ≡ false
           → greaterSum n row below ≡ reckoning (mark said ∷ l) i
       unfolding ready falseStamp falseEntries reckoning
-      reckoned-found pos new t e = sym (reckoning-row n (reckoned l (mark Unsaid)) l (follows, s) (rowOf es) (λ d. 0) (λ d. omega arith) (λ j u. named-has n ds ns bs ss count f j u) ∙ sum-cong n _ _ settled ∙ row-sum n row below)
+      reckoned-found pos new t e = sym (reckoning-row n (reckoned l (mark Unsaid)) l (follows, s) (rowOf es) (λ d. 0) (λ d. omega arith) (λ j u. named-has n ds ns bs ss count f j u) ∙ sum-cong n (λ d. max (rowOf es d) (under l (rowOf es) (λ d. 0) d)) (λ d. max (rowFn row d) (rowFn below d)) settled)
         where
           follows : Follows (reckoned l (mark Unsaid)) l
           follows = follows-of l (mark Unsaid) s pos (rw new tt) t (rw e refl)
