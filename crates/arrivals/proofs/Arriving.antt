@@ -10,7 +10,8 @@ use native.Mathlib.Omega.{arith}
 use Rattle.frame.specs.Answer.{Answer, gives}
 use Rattle.frame.specs.Mark.{desks}
 use Rattle.causality.specs.Answers.{Executed, Judgement, Waiting, executes, waits}
-use Rattle.causality.specs.Calls.{act, executing, judge, release}
+use Rattle.causality.specs.Calls.{act, judge, release, rules}
+use Rattle.causality.specs.Kinds.{executingBy}
 use Rattle.causality.specs.Marks.{waitingPlaces}
 use Rattle.causality.specs.Meaning.{reception}
 use Rattle.causality.specs.State.{Mark, State}
@@ -47,7 +48,7 @@ module _ (own : ℕ) (a : Arrays) (q : Queue) (k : KeptIn own a q) (h : Held) wh
 
   pub waits-room : (n : ℕ) → gives (waits (heldMark h) n) ≡ judge here (heldMark h) → q .count < waitingPlaces
   waits-room n e =
-      let z : ¬ (length (waitingIn q) ≡ waitingPlaces) = eqb-false _ _ (judged-waits here (heldMark h) (heldMark h) n (sym e) .1) in
+      let z : ¬ (length (waitingIn q) ≡ waitingPlaces) = eqb-false _ _ (judged-waits rules here (heldMark h) (heldMark h) n (sym e) .1) in
       let w = waiting-length own a q in
       let f = kept-few own a q k in
       omega arith
@@ -58,7 +59,7 @@ module _ (own : ℕ) (a : Arrays) (q : Queue) (k : KeptIn own a q) (h : Held) wh
   -- A mark that is executed, with its reckoning kept.
   module _ (fit : Fit desks (heldMark h)) (past : ℕ) (e : gives (executes (heldMark (heldWith h past))) ≡ judge here (heldMark h)) where
     between : Between (heldMark (heldWith h past) ∷ here .executed) (here .waiting)
-    between = let j = judged-executes here (heldMark h) (heldMark (heldWith h past)) (sym e) in rw (j .3) (between-arrived here (heldMark h) (k .from) fit (j .0) (j .1) (j .2))
+    between = let j = judged-executes rules here (heldMark h) (heldMark (heldWith h past)) (sym e) in rw (j .3) (between-arrived here (heldMark h) (k .from) fit (j .0) (j .1) (j .2))
 
     pub runs-takes : Takes (heldWith h past) a
     runs-takes =
@@ -71,7 +72,7 @@ module _ (own : ℕ) (a : Arrays) (q : Queue) (k : KeptIn own a q) (h : Held) wh
       runs-midway = record { between = rw (x .marks) between; ordered = x .ordered; queued = k .queued }
 
       pub promise-runs : (c : Arrays) (w : Queue) (n : Released) → ReleasePromise b q c w n → Arrived own a q c w h (ExecutedBoth (n .executed) (n .dropped))
-      unfolding executing
+      unfolding executingBy
       promise-runs c w n y =
           let z = y .end ∙ ap (λ (l : List Mark). release (length (waitingIn q)) l (waitingIn q) 1 0) (x .marks) in
           done (gives (executes (heldMark (heldWith h past)))) e c w _ (λ i. record { own = own; executed = (z i) .executed; waiting = (z i) .waiting })

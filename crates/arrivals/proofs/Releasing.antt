@@ -1,5 +1,5 @@
 -- The release, turn by turn: what one turn does to the executed and the waiting marks. Assumes nothing.
-use Prim.Native.Nat.{_+_, _<_, _≤_, suc, zero, ℕ}
+use Prim.Native.Nat.{_+_, _<_, suc, zero, ℕ}
 use borrow.Author.Tests.{eqb-false}
 use lib.Dec.{T, T-not, not-T}
 use lib.ListN.{length}
@@ -7,17 +7,18 @@ use mathlib.Core.Bool.{false, not, true}
 use mathlib.Core.List.{List, _∷_}
 use mathlib.Core.Logic.{inl, inr}
 use mathlib.Core.Option.{none, some}
-use mathlib.Core.Path.{_≡_, refl, subst}
+use mathlib.Core.Path.{_≡_, refl}
 use native.Mathlib.Omega.{arith}
 use Rattle.frame.specs.declared.Past.the-variants.{Unsaid}
 use Rattle.frame.specs.Mark.{desks}
-use Rattle.causality.specs.Calls.{FromCalls, full, release}
-use Rattle.causality.specs.Marks.{All, has, lowest, places, same, without}
+use Rattle.causality.specs.Calls.{FromCalls, full, release, rules}
+use Rattle.causality.specs.Kinds.{releaseBy}
+use Rattle.causality.specs.Marks.{has, lowest, places, same, without}
 use Rattle.causality.specs.State.{Mark, State, falseStamp, ids, markId, ready, reckoned}
 use Rattle.causality.proofs.Cases.{Arrives}
 use Rattle.causality.proofs.Fit.{Fit}
 use Rattle.causality.proofs.Kept.{count-fit, fit-with, kept}
-use Rattle.causality.proofs.Lists.{InList, Picked, all-map, lowest-in, lowest-picked, without-all, without-lt}
+use Rattle.causality.proofs.Lists.{all-map, lowest-picked, lowest-shorter, without-all}
 use Rattle.causality.proofs.Logic.{or-cases, same-refl, same→eq}
 use Rattle.causality.proofs.Reach.{Sound, execute-reach, follows-of}
 use Rattle.waiting.proofs.DistinctLaws.{distinct-without, waiting-distinct}
@@ -25,29 +26,29 @@ use Rattle.arrivals.specs.Steps.{Between}
 
 pub turn-executed : (l ws : List Mark) (turns k f : ℕ) (w : Mark) → lowest markId (ready l) ws ≡ some w → falseStamp l w ≡ false
     → release (suc turns) l ws k f ≡ release turns (reckoned l w ∷ l) (without markId (w .id) ws) (suc k) f
-turn-executed l ws turns k f w e e′ = rw (e, release) (rw e′)
+turn-executed l ws turns k f w e e′ = rw (e, releaseBy) (rw e′)
 
 pub turn-dropped : (l ws : List Mark) (turns k f : ℕ) (w : Mark) → lowest markId (ready l) ws ≡ some w → falseStamp l w ≡ true
     → release (suc turns) l ws k f ≡ release turns l (without markId (w .id) ws) k (suc f)
-turn-dropped l ws turns k f w e e′ = rw (e, release) (rw e′)
+turn-dropped l ws turns k f w e e′ = rw (e, releaseBy) (rw e′)
 
 pub rests : (l ws : List Mark) (turns k f : ℕ) → lowest markId (ready l) ws ≡ none → release turns l ws k f ≡ record { executed = l; waiting = ws; k = k; f = f }
 rests l ws zero k f e = refl
-rests l ws (suc turns) k f e = rw (e, release)
+rests l ws (suc turns) k f e = rw (e, releaseBy)
 
 -- The ready waiting mark of lowest desk is w.
 module _ (l ws : List Mark) (w : Mark) (m : Between l ws) (e : lowest markId (ready l) ws ≡ some w) where
   pub next-fit : Fit desks w
-  next-fit = (subst (Picked (Fit desks) (ready l)) e (lowest-picked (Fit desks) (ready l) ws (m .waiting))) .0
+  next-fit = lowest-picked markId (Fit desks) (ready l) ws (m .waiting) w e .0
 
   pub next-ready : T (ready l w)
-  next-ready = (subst (Picked (Fit desks) (ready l)) e (lowest-picked (Fit desks) (ready l) ws (m .waiting))) .1
+  next-ready = lowest-picked markId (Fit desks) (ready l) ws (m .waiting) w e .1
 
   pub next-fresh : T (not (has (w .id) (ids l)))
-  next-fresh = (subst (Picked (λ v. T (not (has (v .id) (ids l)))) (ready l)) e (lowest-picked (λ v. T (not (has (v .id) (ids l)))) (ready l) ws (m .fresh))) .0
+  next-fresh = lowest-picked markId (λ v. T (not (has (v .id) (ids l)))) (ready l) ws (m .fresh) w e .0
 
   shorter : length (without markId (w .id) ws) < length ws
-  shorter = without-lt markId (w .id) ws (subst (InList markId ws) e (lowest-in markId (ready l) ws))
+  shorter = lowest-shorter markId (ready l) ws w e
 
   pub between-dropped : Between l (without markId (w .id) ws)
   between-dropped =
@@ -55,11 +56,11 @@ module _ (l ws : List Mark) (w : Mark) (m : Between l ws) (e : lowest markId (re
       let s = shorter in
       record {
         sound = m .sound;
-        fresh = all-map (λ v x. x .0) (without markId (w .id) ws) (without-all (λ v. T (not (has (v .id) (ids l)))) (w .id) ws (m .fresh));
+        fresh = all-map (λ v x. x .0) (without markId (w .id) ws) (without-all markId (λ v. T (not (has (v .id) (ids l)))) (w .id) ws (m .fresh));
         distinct = distinct-without (w .id) ws (m .distinct);
         room = omega arith;
         executed = m .executed;
-        waiting = all-map (λ v x. x .0) (without markId (w .id) ws) (without-all (Fit desks) (w .id) ws (m .waiting));
+        waiting = all-map (λ v x. x .0) (without markId (w .id) ws) (without-all markId (Fit desks) (w .id) ws (m .waiting));
       }
 
   pub next-sound : falseStamp l w ≡ false → Sound (reckoned l w ∷ l)
@@ -71,7 +72,7 @@ module _ (l ws : List Mark) (w : Mark) (m : Between l ws) (e : lowest markId (re
       let s = shorter in
       record {
         sound = next-sound t;
-        fresh = all-map other (without markId (w .id) ws) (without-all (λ v. T (not (has (v .id) (ids l)))) (w .id) ws (m .fresh));
+        fresh = all-map other (without markId (w .id) ws) (without-all markId (λ v. T (not (has (v .id) (ids l)))) (w .id) ws (m .fresh));
         distinct = distinct-without (w .id) ws (m .distinct);
         room = omega arith;
         executed = (count-fit desks (omega arith) (reckoned l w) l (next-sound t) (omega arith) (fit-with desks (omega arith) w Unsaid next-fit refl), m .executed);
@@ -85,7 +86,7 @@ module _ (l ws : List Mark) (w : Mark) (m : Between l ws) (e : lowest markId (re
       ])
 
 -- A kept desk after the execution of a mark that arrived.
-pub between-arrived : (st : State) (m : Mark) → FromCalls desks st → Fit desks m → Arrives st m → ready (st .executed) m ≡ true → falseStamp (st .executed) m ≡ false
+pub between-arrived : (st : State) (m : Mark) → FromCalls desks st → Fit desks m → Arrives rules st m → ready (st .executed) m ≡ true → falseStamp (st .executed) m ≡ false
     → Between (reckoned (st .executed) m ∷ st .executed) (st .waiting)
 unfolding full
 between-arrived st m c f a b g =

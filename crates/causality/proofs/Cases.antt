@@ -3,7 +3,7 @@ use Prim.Native.Nat.{ℕ}
 use borrow.Author.Tests.{not-false}
 use lib.Dec.{eqb}
 use lib.ListN.{length}
-use mathlib.Core.Bool.{Bool, _||_, false, not, true}
+use mathlib.Core.Bool.{Bool, false, not, true}
 use mathlib.Core.List.{List, _++_}
 use mathlib.Core.Option.{Option, none, some}
 use mathlib.Core.Path.{_≡_, refl, subst}
@@ -14,9 +14,10 @@ use Rattle.frame.specs.Frame.{readFields}
 use Rattle.frame.specs.Mark.{boxRule}
 use Rattle.frame.proofs.Tests.{passes}
 use Rattle.causality.specs.Answers.{Executed, Judgement, Known, Numbered, Reply, Waiting, executes, knows, waits}
-use Rattle.causality.specs.Calls.{admit, andThen, full, judge, markAnswer, markIn, newMark, numbered, readMark, sameFields, sizeOfMark, unmade}
-use Rattle.causality.specs.Marks.{any, find, waitingPlaces}
-use Rattle.causality.specs.State.{Mark, State, falseStamp, markId, missing, ready, reckoned}
+use Rattle.causality.specs.Calls.{andThen, full, judge, markAnswer, markIn, newMark, numbered, readMark, rules, sizeOfMark}
+use Rattle.causality.specs.Kinds.{Rules, StateOf, admitBy, judgeBy, markAnswerOf}
+use Rattle.causality.specs.Marks.{find, waitingPlaces}
+use Rattle.causality.specs.State.{State}
 
 -- What Mark has passed where it answers.
 pub record MarkGives (N : ℕ) (st : State) (b : MarkBox) (lent : ℕ) (n : Numbered) : Type 0 where
@@ -25,17 +26,11 @@ pub record MarkGives (N : ℕ) (st : State) (b : MarkBox) (lent : ℕ) (n : Numb
   pub writes : numbered (newMark st b .id .number) (sizeOfMark N (newMark st b) lent) ≡ gives n
 
 pub mark-gives : (N : ℕ) (st : State) (b : MarkBox) (lent : ℕ) (n : Numbered) → markAnswer N st b lent ≡ gives n → MarkGives N st b lent n
-unfolding markAnswer
+unfolding markAnswerOf
 mark-gives N st b lent n h =
     let p5 = passes _ _ _ _ h in
     let p9 = passes _ _ _ _ (p5 .1) in
     record { rule = not-false _ (p5 .0); room = p9 .0; writes = p9 .1 }
-
--- A mark that has passed 7 to 9.
-pub record Arrives (st : State) (m : Mark) : Type 0 where
-  pub made : (unmade st (m .id) || any (unmade st) (m .stamp)) ≡ false
-  pub absent : find markId (m .id) (st .executed ++ st .waiting) ≡ none
-  pub room : full st ≡ false
 
 -- How many marks an answer of Receive says were executed.
 abbrev pub executedBy : Answer Reply → ℕ
@@ -44,55 +39,63 @@ executedBy (gives (Waiting n)) = 0
 executedBy (gives (Executed k f)) = k
 executedBy (refused c) = 0
 
--- What led to each judgement.
-pub data JudgeCase (st : State) (m : Mark) : Answer (Judgement Mark) → Type 0 where
-  to-refuse : (c : ℕ) → JudgeCase st m (refused c)
-  to-know : JudgeCase st m (gives knows)
-  to-wait : Arrives st m → ready (st .executed) m ≡ false → eqb (length (st .waiting)) waitingPlaces ≡ false → JudgeCase st m (gives (waits m (missing (st .executed) m)))
-  to-execute : Arrives st m → ready (st .executed) m ≡ true → falseStamp (st .executed) m ≡ false → JudgeCase st m (gives (executes (reckoned (st .executed) m)))
+-- Desks of any kind.
+module _ {A : Type 0} (R : Rules A) where
+  -- A mark that has passed 7 to 9.
+  pub record Arrives (st : StateOf A) (m : A) : Type 0 where
+    pub made : (R .unmade) st m ≡ false
+    pub absent : find (R .nameOf) ((R .nameOf) m) (st .executed ++ st .waiting) ≡ none
+    pub room : full st ≡ false
 
-admit-case : (st : State) (m : Mark) → (full st ≡ false → Arrives st m) → JudgeCase st m (admit st m)
-unfolding admit
-admit-case st m here = go (full st) (ready (st .executed) m) (eqb (length (st .waiting)) waitingPlaces) (falseStamp (st .executed) m) refl refl refl refl
-  where
-    go : (a b c g : Bool) → full st ≡ a → ready (st .executed) m ≡ b → eqb (length (st .waiting)) waitingPlaces ≡ c → falseStamp (st .executed) m ≡ g → JudgeCase st m (admit st m)
-    go true b c g ea eb ec eg = rw (ea, admit) (to-refuse 9)
-    go false false true g ea eb ec eg = rw (ea, admit) (rw (eb, ec) (to-refuse 10))
-    go false false false g ea eb ec eg = rw (ea, admit) (rw (eb, ec) (to-wait (here ea) eb ec))
-    go false true c true ea eb ec eg = rw (ea, admit) (rw (eb, eg) (to-refuse 11))
-    go false true c false ea eb ec eg = rw (ea, admit) (rw (eb, eg) (to-execute (here ea) eb eg))
+  -- What led to each judgement.
+  pub data JudgeCase (st : StateOf A) (m : A) : Answer (Judgement A) → Type 0 where
+    to-refuse : (c : ℕ) → JudgeCase st m (refused c)
+    to-know : JudgeCase st m (gives knows)
+    to-wait : Arrives st m → (R .ready) (st .executed) m ≡ false → eqb (length (st .waiting)) waitingPlaces ≡ false → JudgeCase st m (gives (waits m ((R .short) (st .executed) m)))
+    to-execute : Arrives st m → (R .ready) (st .executed) m ≡ true → (R .falseStamp) (st .executed) m ≡ false → JudgeCase st m (gives (executes ((R .reckoned) (st .executed) m)))
 
-pub judge-case : (st : State) (m : Mark) → JudgeCase st m (judge st m)
-unfolding judge
-judge-case st m = go (unmade st (m .id) || any (unmade st) (m .stamp)) refl (find markId (m .id) (st .executed ++ st .waiting)) refl
-  where
-    held : (b : Bool) → JudgeCase st m (refuseIf (not b) 8 (gives knows))
-    held true = to-know
-    held false = to-refuse 8
+  admit-case : (st : StateOf A) (m : A) → (full st ≡ false → Arrives st m) → JudgeCase st m (admitBy R st m)
+  unfolding admitBy
+  admit-case st m here = go (full st) ((R .ready) (st .executed) m) (eqb (length (st .waiting)) waitingPlaces) ((R .falseStamp) (st .executed) m) refl refl refl refl
+    where
+      go : (a b c g : Bool) → full st ≡ a → (R .ready) (st .executed) m ≡ b → eqb (length (st .waiting)) waitingPlaces ≡ c → (R .falseStamp) (st .executed) m ≡ g → JudgeCase st m (admitBy R st m)
+      go true b c g ea eb ec eg = rw (ea, admitBy) (to-refuse 9)
+      go false false true g ea eb ec eg = rw (ea, admitBy) (rw (eb, ec) (to-refuse 10))
+      go false false false g ea eb ec eg = rw (ea, admitBy) (rw (eb, ec) (to-wait (here ea) eb ec))
+      go false true c true ea eb ec eg = rw (ea, admitBy) (rw (eb, eg) (to-refuse 11))
+      go false true c false ea eb ec eg = rw (ea, admitBy) (rw (eb, eg) (to-execute (here ea) eb eg))
 
-    go : (b : Bool) → (unmade st (m .id) || any (unmade st) (m .stamp)) ≡ b → (o : Option Mark) → find markId (m .id) (st .executed ++ st .waiting) ≡ o → JudgeCase st m (judge st m)
-    go true e o q = rw (e, judge) (to-refuse 7)
-    go false e none q = rw (e, judge) (rw q (admit-case st m (λ r. record { made = e; absent = q; room = r })))
-    go false e (some h) q = rw (e, judge) (rw q (held (sameFields h m)))
+  pub judge-case : (st : StateOf A) (m : A) → JudgeCase st m (judgeBy R st m)
+  unfolding judgeBy
+  judge-case st m = go ((R .unmade) st m) refl (find (R .nameOf) ((R .nameOf) m) (st .executed ++ st .waiting)) refl
+    where
+      held : (b : Bool) → JudgeCase st m (refuseIf (not b) 8 (gives knows))
+      held true = to-know
+      held false = to-refuse 8
 
-pub judged-waits : (st : State) (m x : Mark) (n : ℕ) → judge st m ≡ gives (waits x n) → Arrives st m × (eqb (length (st .waiting)) waitingPlaces ≡ false)
-judged-waits st m x n e = go x n (subst (JudgeCase st m) e (judge-case st m))
-  where
-    go : (x : Mark) (n : ℕ) → JudgeCase st m (gives (waits x n)) → Arrives st m × (eqb (length (st .waiting)) waitingPlaces ≡ false)
-    go x n (to-wait a b c) = (a, c)
+      go : (b : Bool) → (R .unmade) st m ≡ b → (o : Option A) → find (R .nameOf) ((R .nameOf) m) (st .executed ++ st .waiting) ≡ o → JudgeCase st m (judgeBy R st m)
+      go true e o q = rw (e, judgeBy) (to-refuse 7)
+      go false e none q = rw (e, judgeBy) (rw q (admit-case st m (λ r. record { made = e; absent = q; room = r })))
+      go false e (some h) q = rw (e, judgeBy) (rw q (held ((R .agrees) h m)))
 
-pub judged-executes : (st : State) (m x : Mark) → judge st m ≡ gives (executes x)
-    → Arrives st m × (ready (st .executed) m ≡ true) × (falseStamp (st .executed) m ≡ false) × (x ≡ reckoned (st .executed) m)
-judged-executes st m x e = go x (subst (JudgeCase st m) e (judge-case st m))
-  where
-    go : (x : Mark) → JudgeCase st m (gives (executes x)) → Arrives st m × (ready (st .executed) m ≡ true) × (falseStamp (st .executed) m ≡ false) × (x ≡ reckoned (st .executed) m)
-    go x (to-execute a b c) = (a, b, c, refl)
+  pub judged-waits : (st : StateOf A) (m x : A) (n : ℕ) → judgeBy R st m ≡ gives (waits x n) → Arrives st m × (eqb (length (st .waiting)) waitingPlaces ≡ false)
+  judged-waits st m x n e = go x n (subst (JudgeCase st m) e (judge-case st m))
+    where
+      go : (x : A) (n : ℕ) → JudgeCase st m (gives (waits x n)) → Arrives st m × (eqb (length (st .waiting)) waitingPlaces ≡ false)
+      go x n (to-wait a b c) = (a, c)
 
--- The same of bytes: those that the reader refuses are refused.
-pub received-case : (N : ℕ) (st : State) (s : List ℕ) → JudgeCase st (markIn N s) (andThen (readMark N s) (judge st))
+  pub judged-executes : (st : StateOf A) (m x : A) → judgeBy R st m ≡ gives (executes x)
+      → Arrives st m × ((R .ready) (st .executed) m ≡ true) × ((R .falseStamp) (st .executed) m ≡ false) × (x ≡ (R .reckoned) (st .executed) m)
+  judged-executes st m x e = go x (subst (JudgeCase st m) e (judge-case st m))
+    where
+      go : (x : A) → JudgeCase st m (gives (executes x)) → Arrives st m × ((R .ready) (st .executed) m ≡ true) × ((R .falseStamp) (st .executed) m ≡ false) × (x ≡ (R .reckoned) (st .executed) m)
+      go x (to-execute a b c) = (a, b, c, refl)
+
+-- The same of bytes at our desks: those that the reader refuses are refused.
+pub received-case : (N : ℕ) (st : State) (s : List ℕ) → JudgeCase rules st (markIn N s) (andThen (readMark N s) (judge st))
 unfolding readMark
 received-case N st s = go (readFields N s)
   where
-    go : (a : Answer Fields) → JudgeCase st (markIn N s) (andThen (andThen a (λ f. gives (markIn N s))) (judge st))
-    go (gives f) = judge-case st (markIn N s)
+    go : (a : Answer Fields) → JudgeCase rules st (markIn N s) (andThen (andThen a (λ f. gives (markIn N s))) (judge st))
+    go (gives f) = judge-case rules st (markIn N s)
     go (refused c) = to-refuse c

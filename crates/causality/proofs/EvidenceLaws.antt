@@ -12,9 +12,10 @@ use Rattle.frame.specs.Answer.{Answer, gives, refuseIf, refused}
 use Rattle.frame.specs.Mark.{MarkId}
 use Rattle.causality.specs.Answers.{After, Before, Concurrent, Evidence, Relation, Same, verdictOf}
 use Rattle.causality.specs.Calls.{andThen, isExecuted, relate}
+use Rattle.causality.specs.Kinds.{relateBy}
 use Rattle.causality.specs.Evidence.{BesideRelate, ChainOf, Proves, Shows, Taken, behind, chain, chainFor, chainIf, entryTowards, evidence, evidenceChain, evidenceOf, evidencePairs, goingBack, inPast, stampOf, verdictIn}
 use Rattle.causality.specs.Marks.{All, any, find, has, keep, same, tally}
-use Rattle.causality.specs.State.{Mark, State, ids, precedes}
+use Rattle.causality.specs.State.{Mark, State, ids, markId, precedes}
 use Rattle.causality.proofs.Lists.{Among, Lowest, absent-all, all-map, any-find, any-of, has-keep, has-self, keep-has, lowest-least}
 use Rattle.causality.proofs.Logic.{T→eq, and-fst, and-snd, bool-ext, nT→eq, or-cases, or-inl, or-inr, same-refl, same→eq, split}
 use Rattle.causality.proofs.Past.{Counted, Standing, behind-all, counted, fresh-of, precedes-past, prefix-has, prefix-le}
@@ -191,7 +192,7 @@ Case l a b (gives r) = T (has a (ids l)) × T (has b (ids l)) × Means l a b r
 Case l a b (refused c) = Unit {0}
 
 relate-case : (st : State) (a b : MarkId) → Case (st .executed) a b (relate st a b)
-unfolding relate
+unfolding relateBy
 relate-case st a b = go (isExecuted st a && isExecuted st b) refl (same a b) refl (precedes l a b) refl (precedes l b a) refl
   where
     l : List Mark
@@ -338,7 +339,7 @@ stamps-of : (l : List Mark) → Sound l → All (λ m. m .stamp ≡ stampOf l (m
 stamps-of [] s = tt
 stamps-of (m ∷ older) s = (
   rw (T→eq (same (m .id) (m .id)) (same-refl (m .id)), stampOf, find) refl,
-  all-map old older (absent-all (λ w. w .stamp ≡ stampOf older (w .id)) (m .id) older (not-T (has (m .id) (ids older)) (fresh-of (m .id) (ids older) (sound-counted (m ∷ older) s))) (stamps-of older (s .1))),
+  all-map old older (absent-all markId (λ w. w .stamp ≡ stampOf older (w .id)) (m .id) older (not-T (has (m .id) (ids older)) (fresh-of (m .id) (ids older) (sound-counted (m ∷ older) s))) (stamps-of older (s .1))),
 )
   where
     old : (w : Mark) → (w .stamp ≡ stampOf older (w .id)) × T (not (same (m .id) (w .id))) → w .stamp ≡ stampOf (m ∷ older) (w .id)

@@ -12,7 +12,8 @@ use Rattle.frame.specs.Answer.{Answer, gives, refused}
 use Rattle.frame.specs.Frame.{at2, at4, bytes2, bytes4, countBad, entriesBad, entriesOf, entryBad, fieldsBad, fieldsOf, frameOf, headOf, lengthBad, outputShort, partBad, pastIn, readEntries, readFields, versionBad, writeSize}
 use Rattle.frame.specs.Mark.{MarkId, boxRule, desks, isDesk, isNumber}
 use Rattle.causality.specs.Answers.{After, Before, Concurrent, Evidence, Executed, Known, Numbered, Relation, Reply, Same, Waiting}
-use Rattle.causality.specs.Calls.{admit, apartOf, executing, fieldsOfMark, firstApart, frameAgainBytes, frameAgainSize, frameOfMark, full, judge, mark, markAnswer, markIn, new, newMark, readMark, receive, relate, sameFields, sizeOfMark, toFirstBytes, toFirstMark, toFirstSize, toSecondBytes, toSecondMark, toSecondSize, unmade}
+use Rattle.causality.specs.Calls.{apartOf, fieldsOfMark, firstApart, frameAgainBytes, frameAgainSize, frameOfMark, full, mark, markIn, new, newMark, readMark, receive, relate, sameFields, sizeOfMark, toFirstBytes, toFirstMark, toFirstSize, toSecondBytes, toSecondMark, toSecondSize, unmade}
+use Rattle.causality.specs.Kinds.{admitBy, executingBy, judgeBy, markAnswerOf, markOf, newOf, receiveOf, relateBy}
 use Rattle.causality.specs.Evidence.{chain, evidence, evidenceChain, evidencePairs, inPast}
 use Rattle.causality.specs.Examples.{chains, clicks, counted, fading, pinned, short, starred, tabled, tails}
 use Rattle.causality.specs.Marks.{same}
@@ -308,5 +309,5 @@ equal (x ∷ xs) (y ∷ ys) = sameNumbers x y && equal xs ys
 pub examples : T (equal found starred) × T (equal foundPinned pinned) × T (equal foundShort short) × T (equal foundClicks clicks)
     × T (equal foundCounted counted) × T (equal foundConverted converted) × T (equal foundTails tails) × T (equal foundChains chains)
     × T (equal foundFading fading) × T (equal foundTabled tabled)
-unfolding isDesk isNumber boxRule at2 at4 bytes2 bytes4 pastIn fieldsOf headOf frameOf lengthBad versionBad countBad partBad fieldsBad entryBad entriesBad outputShort readFields readEntries writeSize same isHead heads previous ready missingEntries lacksPrevious missing reckoning falseEntries falseStamp concurrent new fieldsOfMark frameOfMark sizeOfMark markIn full newMark markAnswer mark executing admit unmade sameFields judge readMark receive relate apartOf firstApart frameAgainSize frameAgainBytes toSecondMark toSecondSize toSecondBytes toFirstMark toFirstSize toFirstBytes chain inPast evidence evidenceChain evidencePairs pairsApart pairsBefore tables pairTables pairTablesCounts
+unfolding isDesk isNumber boxRule at2 at4 bytes2 bytes4 pastIn fieldsOf headOf frameOf lengthBad versionBad countBad partBad fieldsBad entryBad entriesBad outputShort readFields readEntries writeSize same isHead heads previous ready missingEntries lacksPrevious missing reckoning falseEntries falseStamp concurrent newOf fieldsOfMark frameOfMark sizeOfMark markIn full newMark markAnswerOf markOf executingBy admitBy unmade sameFields judgeBy readMark receiveOf relateBy apartOf firstApart frameAgainSize frameAgainBytes toSecondMark toSecondSize toSecondBytes toFirstMark toFirstSize toFirstBytes chain inPast evidence evidenceChain evidencePairs pairsApart pairsBefore tables pairTables pairTablesCounts
 examples = (tt, tt, tt, tt, tt, tt, tt, tt, tt, tt)

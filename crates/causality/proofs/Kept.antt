@@ -1,53 +1,32 @@
 -- Every state that came from New and the calls, whatever bytes it was lent: what holds of it. Assumes nothing.
-use Prim.Native.Nat.{_<_, _+_, _≤_, suc, zero, ℕ}
+use Prim.Native.Nat.{_<_, _+_, _≤_, suc, ℕ}
 use borrow.Author.Tests.{eqb-false, le-ltb}
 use lib.Dec.{T}
 use lib.ListN.{length}
 use mathlib.Core.Bool.{Bool, false, true}
 use mathlib.Core.List.{List, [], _∷_}
-use mathlib.Core.Option.{Option, none, some}
 use mathlib.Core.Path.{_≡_, refl, subst}
 use native.Mathlib.Omega.{arith}
 use Rattle.frame.specs.declared.Fields.{Fields}
 use Rattle.frame.specs.declared.MarkBox.{MarkBox}
 use Rattle.frame.specs.declared.Past.{Past}
-use Rattle.frame.specs.declared.Past.the-variants.{Said, Unsaid}
+use Rattle.frame.specs.declared.Past.the-variants.{Unsaid}
 use Rattle.frame.specs.Answer.{Answer, gives, refused}
 use Rattle.frame.specs.Frame.{pastBad, readFields}
 use Rattle.frame.specs.Mark.{MarkId, boxRule, isDesk, numbers, pasts}
 use Rattle.causality.specs.Answers.{Judgement, Numbered}
-use Rattle.causality.specs.Calls.{Created, FromCalls, act, andThen, begun, earlier, empty, execute, executing, full, judge, mark, markAnswer, markIn, marked, new, newMark, readMark, receive, receiveMark, received, release, stateIf}
-use Rattle.causality.specs.Marks.{All, has, lowest, places, tally, without}
-use Rattle.causality.specs.State.{Mark, State, falseStamp, heads, ids, markId, ready, reckoned, reckoning, withPast}
+use Rattle.causality.specs.Calls.{Created, FromCalls, act, andThen, begun, earlier, empty, execute, full, judge, mark, markAnswer, markIn, marked, newMark, readMark, receive, receiveMark, received, release, rules, stateIf}
+use Rattle.causality.specs.Kinds.{executingBy, markOf, newOf, receiveOf}
+use Rattle.causality.specs.Marks.{All, has, places, tally}
+use Rattle.causality.specs.State.{Mark, State, heads, ids, markId, ready, reckoned, reckoning, withPast}
 use Rattle.causality.proofs.Cases.{JudgeCase, judge-case, mark-gives, to-execute, to-know, to-refuse, to-wait}
 use Rattle.causality.proofs.Fit.{Fit, Range, desk-facts, frame-fit, strict-count}
-use Rattle.causality.proofs.Lists.{Picked, all-ids, all-map, lowest-picked, tally-length, without-all}
+use Rattle.causality.proofs.Lists.{all-map, all-names, lowest-picked, tally-length, without-all}
 use Rattle.causality.proofs.Numbers.{Strict, heads-strict}
 use Rattle.causality.proofs.Past.{Standing, counted, heads-has, prefix-le}
 use Rattle.causality.proofs.Reach.{ReachState, Sound, local, local-hist, mark-reach, receive-reach, reckoning-le}
 use Rattle.causality.proofs.Room.{StillState, mark-still, receive-still}
-
--- What holds of every waiting mark, and of every executed one as it is executed, holds after the release.
-pub release-all : (P Q : Mark → Type 0) → ((l : List Mark) (w : Mark) → Q w → P (reckoned l w)) → (turns : ℕ) (l ws : List Mark) (k f : ℕ) → All P l → All Q ws
-    → All P ((release turns l ws k f) .executed) × All Q ((release turns l ws k f) .waiting)
-release-all P Q r zero l ws k f a b = (a, b)
-release-all P Q r (suc turns) l ws k f a b = go (lowest markId (ready l) ws) refl (release-all P Q r turns)
-  where
-    go : (o : Option Mark) → lowest markId (ready l) ws ≡ o
-        → ((l ws : List Mark) (k f : ℕ) → All P l → All Q ws → All P ((release turns l ws k f) .executed) × All Q ((release turns l ws k f) .waiting))
-        → All P ((release (suc turns) l ws k f) .executed) × All Q ((release (suc turns) l ws k f) .waiting)
-    go none e ih = rw (e, release) (a, b)
-    go (some w) e ih = by (falseStamp l w) refl
-      where
-        rest : All Q (without markId (w .id) ws)
-        rest = all-map (λ v x. x .0) (without markId (w .id) ws) (without-all Q (w .id) ws b)
-
-        qw : Q w
-        qw = (subst (Picked Q (ready l)) e (lowest-picked Q (ready l) ws b)) .0
-
-        by : (c : Bool) → falseStamp l w ≡ c → All P ((release (suc turns) l ws k f) .executed) × All Q ((release (suc turns) l ws k f) .waiting)
-        by true q = rw (e, release) (rw q (ih l (without markId (w .id) ws) k (suc f) a rest))
-        by false q = rw (e, release) (rw q (ih (reckoned l w ∷ l) (without markId (w .id) ws) (suc k) f (r l w qw, a) rest))
+use Rattle.causality.proofs.Releases.{release-keeps, others}
 
 module _ (N : ℕ) (some-desk : 1 ≤ N) where
   pub record Kept (st : State) : Type 0 where
@@ -59,7 +38,7 @@ module _ (N : ℕ) (some-desk : 1 ≤ N) where
     pub waiting : All (Fit N) (st .waiting)
 
   listed-range : (st : State) → Kept st → (i : MarkId) → T (has i (ids (st .executed))) → Range N i
-  listed-range st k = all-ids (Range N) (st .executed) (all-map (λ m f. f .range) (st .executed) (k .executed))
+  listed-range st k = all-names markId (Range N) (st .executed) (all-map (λ m f. f .range) (st .executed) (k .executed))
 
   -- The new mark passes the writer's conditions 4 to 6.
   pub new-fit : (st : State) (b : MarkBox) → Kept st → boxRule b ≡ true → full st ≡ false → Fit N (newMark st b)
@@ -121,7 +100,7 @@ module _ (N : ℕ) (some-desk : 1 ≤ N) where
   reckoned-fit (m ∷ older) s q a = (count-fit m older s (omega arith) (a .0), reckoned-fit older (s .1) (omega arith) (a .1))
 
   pub mark-kept : (st : State) (b : MarkBox) (out : List ℕ) → Kept st → Kept ((mark N st b out) .state)
-  unfolding mark
+  unfolding markOf
   mark-kept st b out k = go (markAnswer N st b (length out)) refl (mark-reach N st b out (k .reach)) (mark-still N st b out (k .reach) (k .still))
     where
       go : (a : Answer Numbered) → markAnswer N st b (length out) ≡ a → ReachState (stateIf a (execute (newMark st b) st) st) → StillState (stateIf a (execute (newMark st b) st) st)
@@ -132,23 +111,25 @@ module _ (N : ℕ) (some-desk : 1 ≤ N) where
       go (refused c) e r s = k
 
   pub receive-mark-kept : (st : State) (m : Mark) → Fit N m → Kept st → Kept ((receiveMark st m) .state)
-  unfolding executing
-  receive-mark-kept st m f k = go (judge-case st m)
+  unfolding executingBy
+  receive-mark-kept st m f k = go (judge-case rules st m)
       (receive-reach st m (f .range .first) (λ e t. f .entries e t .first) (k .reach)) (receive-still st m (k .still))
     where
-      go : {j : Answer (Judgement Mark)} → JudgeCase st m j → ReachState ((act st j) .state) → StillState ((act st j) .state) → Kept ((act st j) .state)
+      go : {j : Answer (Judgement Mark)} → JudgeCase rules st m j → ReachState ((act st j) .state) → StillState ((act st j) .state) → Kept ((act st j) .state)
       go (to-refuse c) r q = k
       go to-know r q = k
       go (to-wait a b c) r q = record { low = k .low; high = k .high; reach = r; still = q; executed = k .executed; waiting = (f, k .waiting) }
       go (to-execute a b c) r q =
-          let x = release-all Bare (Fit N) (λ l w g. fit-with w Unsaid g refl) (length (st .waiting)) (reckoned (st .executed) m ∷ st .executed) (st .waiting) 1 0
-          (fit-with m Unsaid f refl, all-map (λ v g. fit-with v Unsaid g refl) (st .executed) (k .executed)) (k .waiting) in
+          let x = release-keeps rules (λ l ws n d. All Bare l × All (Fit N) ws)
+          (λ l ws n d w p e. (p .0, all-map (λ v x. x .0) (others rules w ws) (without-all markId (Fit N) (w .id) ws (p .1))))
+          (λ l ws n d w p e t. ((fit-with w Unsaid (lowest-picked markId (Fit N) (ready l) ws (p .1) w e .0) refl, p .0), all-map (λ v x. x .0) (others rules w ws) (without-all markId (Fit N) (w .id) ws (p .1))))
+          (length (st .waiting)) (reckoned (st .executed) m ∷ st .executed) (st .waiting) 1 0 ((fit-with m Unsaid f refl, all-map (λ v g. fit-with v Unsaid g refl) (st .executed) (k .executed)), k .waiting) in
           let l = release (length (st .waiting)) (reckoned (st .executed) m ∷ st .executed) (st .waiting) 1 0 .executed in
           let t = q .room .total in
           record { low = k .low; high = k .high; reach = r; still = q; executed = reckoned-fit l (r .sound) (omega arith) (x .0); waiting = x .1 }
 
   pub receive-kept : (st : State) (s : List ℕ) → Kept st → Kept ((receive N st s) .state)
-  unfolding receive readMark
+  unfolding receiveOf readMark
   receive-kept st s k = go (readFields N s) refl
     where
       go : (a : Answer Fields) → readFields N s ≡ a → Kept ((act st (andThen (andThen a (λ f. gives (markIn N s))) (judge st))) .state)
@@ -166,7 +147,7 @@ module _ (N : ℕ) (some-desk : 1 ≤ N) where
   }
 
   pub kept : {st : State} → FromCalls N st → Kept st
-  unfolding new
+  unfolding newOf
   kept (begun d) = go (isDesk N d) refl
     where
       go : (b : Bool) → isDesk N d ≡ b → Kept ((elim b as (λ x. Created) [ true ↦ record { state = empty d; answer = gives d } | false ↦ record { state = empty 1; answer = refused 1 } ]) .state)

@@ -2,12 +2,14 @@
 pub mod Examples
 pub mod Logic
 pub mod Lists
+pub mod Images
 pub mod Shared
 pub mod Past
 pub mod Numbers
 pub mod Missing
 pub mod Reckoning
 pub mod Cases
+pub mod Releases
 pub mod Refusals
 pub mod Growth
 pub mod Reach

@@ -1,11 +1,10 @@
 -- Any desk from New, Mark and Receive, whatever frames it was lent.
-use Prim.Native.Nat.{_-_, _<_, _≤_, suc, zero, ℕ}
+use Prim.Native.Nat.{_-_, _<_, _≤_, suc, ℕ}
 use lib.Dec.{T, T-not, eqb, eqb-refl, leb, ltb, lt→ltb, nltb→le, not-T}
 use lib.ListN.{length}
 use mathlib.Core.Bool.{Bool, _&&_, _||_, false, not, true}
 use mathlib.Core.List.{List, [], _++_, _∷_}
 use mathlib.Core.Logic.{_↔_, _⊎_, inl, inr}
-use mathlib.Core.Option.{Option, none, some}
 use mathlib.Core.Path.{_∙_, _≡_, ap, refl, subst, sym}
 use native.Mathlib.Omega.{arith}
 use Rattle.frame.specs.declared.MarkBox.{MarkBox}
@@ -14,15 +13,17 @@ use Rattle.frame.specs.Answer.{Answer, gives, refused}
 use Rattle.frame.specs.Mark.{MarkId}
 use Rattle.frame.proofs.Tests.{or-false}
 use Rattle.causality.specs.Answers.{Judgement, Numbered}
-use Rattle.causality.specs.Calls.{act, execute, executing, mark, markAnswer, newMark, receiveMark, release, stateIf, unmade}
-use Rattle.causality.specs.Marks.{All, all, any, has, keep, lowest, same, tally, without}
+use Rattle.causality.specs.Calls.{act, execute, mark, markAnswer, newMark, receiveMark, release, rules, stateIf, unmade}
+use Rattle.causality.specs.Kinds.{executingBy, markOf}
+use Rattle.causality.specs.Marks.{All, all, any, has, keep, same, tally}
 use Rattle.causality.specs.State.{Mark, State, falseEntries, falseStamp, heads, ids, markId, precedes, previous, ready, reckoned, reckoning, sameCount}
 use Rattle.causality.proofs.Cases.{Arrives, JudgeCase, judge-case, to-execute, to-know, to-refuse, to-wait}
-use Rattle.causality.proofs.Lists.{Picked, absent-all, all-at, all-map, any-cong, any-find, any-of, find-has, has-append, has-keep, has-self, ids-append, ids-length, keep-has, lowest-picked, nor-fst, nor-snd, without-all}
+use Rattle.causality.proofs.Lists.{absent-all, all-at, all-map, any-cong, any-find, any-of, find-has, has-append, has-keep, has-self, map-append, ids-length, keep-has, lowest-picked, nor-fst, nor-snd, without-all}
 use Rattle.causality.proofs.Logic.{T→eq, and-fst, and-intro, bool-ext, nT→eq, or-cases, or-inl, or-inr, same-refl, same→eq, split}
 use Rattle.causality.proofs.Numbers.{ready-next}
 use Rattle.causality.proofs.Past.{Counted, Good, Standing, fresh-of, has-heads, head-in, head-out, heads-has, no-self, prefix-has, top-exists}
 use Rattle.causality.proofs.Reckoning.{among-le, counted-once, keep-once, reckoning-of}
+use Rattle.causality.proofs.Releases.{release-keeps, others}
 
 pub record Follows (m : Mark) (older : List Mark) : Type 0 where
   pub next : m .id .number ≡ suc (tally (m .id .desk) (ids older))
@@ -286,30 +287,16 @@ module _ (own : ℕ) where
       ])
 
   pub release-reach : (turns : ℕ) (l ws : List Mark) (k f : ℕ) → Reach l ws → Reach ((release turns l ws k f) .executed) ((release turns l ws k f) .waiting)
-  release-reach zero l ws k f r = r
-  release-reach (suc turns) l ws k f r = go (lowest markId (ready l) ws) refl (release-reach turns)
-    where
-      go : (o : Option Mark) → lowest markId (ready l) ws ≡ o
-          → ((l ws : List Mark) (k f : ℕ) → Reach l ws → Reach ((release turns l ws k f) .executed) ((release turns l ws k f) .waiting))
-          → Reach ((release (suc turns) l ws k f) .executed) ((release (suc turns) l ws k f) .waiting)
-      go none e ih = rw (e, release) r
-      go (some w) e ih = by (falseStamp l w) refl
-        where
-          a : All (λ v. Wait l v × T (not (same (w .id) (v .id)))) (without markId (w .id) ws)
-          a = without-all (Wait l) (w .id) ws (r .wait)
-
-          pk : Wait l w × T (ready l w)
-          pk = subst (Picked (Wait l) (ready l)) e (lowest-picked (Wait l) (ready l) ws (r .wait))
-
-          by : (b : Bool) → falseStamp l w ≡ b → Reach ((release (suc turns) l ws k f) .executed) ((release (suc turns) l ws k f) .waiting)
-          by true q = rw (e, release) (rw q (ih l (without markId (w .id) ws) k (suc f) (record { sound = r .sound; wait = all-map (λ v x. x .0) (without markId (w .id) ws) a })))
-          by false q = rw (e, release) (rw q (ih (reckoned l w ∷ l) (without markId (w .id) ws) (suc k) f (grown l (without markId (w .id) ws) (reckoned l w) (follows-of l w (r .sound) (pk .0 .pos) (pk .0 .fresh) (pk .1) q) (r .sound) a)))
+  release-reach = release-keeps rules (λ l ws k f. Reach l ws)
+      (λ l ws k f w r e. record { sound = r .sound; wait = all-map (λ v x. x .0) (others rules w ws) (without-all markId (Wait l) (w .id) ws (r .wait)) })
+      (λ l ws k f w r e t. let p = lowest-picked markId (Wait l) (ready l) ws (r .wait) w e in
+      grown l (others rules w ws) (reckoned l w) (follows-of l w (r .sound) (p .0 .pos) (p .0 .fresh) (p .1) t) (r .sound) (without-all markId (Wait l) (w .id) ws (r .wait)))
 
 abbrev pub ReachState : State → Type 0
 ReachState d = Reach (d .own) (d .executed) (d .waiting)
 
 pub mark-reach : (N : ℕ) (d : State) (b : MarkBox) (out : List ℕ) → ReachState d → ReachState ((mark N d b out) .state)
-unfolding mark newMark
+unfolding markOf newMark
 mark-reach N d b out r = go (markAnswer N d b (length out))
   where
     new : Reach (d .own) (newMark d b ∷ d .executed) (d .waiting)
@@ -321,20 +308,20 @@ mark-reach N d b out r = go (markAnswer N d b (length out))
     go (refused c) = r
 
 -- A mark that arrived and is ready, with a true stamp, is executed.
-absent-both : (d : State) (m : Mark) → Arrives d m → T (not (has (m .id) (ids (d .executed)) || has (m .id) (ids (d .waiting))))
-absent-both d m a = rw (← has-append (m .id) (ids (d .executed)) (ids (d .waiting)), ← ids-append (d .executed) (d .waiting), find-has (m .id) (d .executed ++ d .waiting), a .absent) tt
+absent-both : (d : State) (m : Mark) → Arrives rules d m → T (not (has (m .id) (ids (d .executed)) || has (m .id) (ids (d .waiting))))
+absent-both d m a = rw (← has-append (m .id) (ids (d .executed)) (ids (d .waiting)), ← map-append markId (d .executed) (d .waiting), find-has markId (m .id) (d .executed ++ d .waiting), a .absent) tt
 
-pub execute-reach : (d : State) (m : Mark) → 1 ≤ m .id .number → ReachState d → Arrives d m → ready (d .executed) m ≡ true → falseStamp (d .executed) m ≡ false → ReachState (execute (reckoned (d .executed) m) d)
+pub execute-reach : (d : State) (m : Mark) → 1 ≤ m .id .number → ReachState d → Arrives rules d m → ready (d .executed) m ≡ true → falseStamp (d .executed) m ≡ false → ReachState (execute (reckoned (d .executed) m) d)
 execute-reach d m p r a b c =
     let n = absent-both d m a in
     let here = nor-fst (has (m .id) (ids (d .executed))) (has (m .id) (ids (d .waiting))) n in
     grown (d .own) (d .executed) (d .waiting) (reckoned (d .executed) m) (follows-of (d .executed) m (r .sound) p here (rw b tt) c) (r .sound)
-    (absent-all (Wait (d .own) (d .executed)) (m .id) (d .waiting) (nor-snd (has (m .id) (ids (d .executed))) (has (m .id) (ids (d .waiting))) n) (r .wait))
+    (absent-all markId (Wait (d .own) (d .executed)) (m .id) (d .waiting) (nor-snd (has (m .id) (ids (d .executed))) (has (m .id) (ids (d .waiting))) n) (r .wait))
 
 pub receive-reach : (d : State) (m : Mark) → 1 ≤ m .id .number → ((e : MarkId) → T (has e (m .stamp)) → 1 ≤ e .number) → ReachState d
     → ReachState ((receiveMark d m) .state)
-unfolding executing unmade
-receive-reach d m p pe r = go (judge-case d m)
+unfolding executingBy unmade
+receive-reach d m p pe r = go (judge-case rules d m)
   where
     here : T (not (has (m .id) (ids (d .executed)) || has (m .id) (ids (d .waiting)))) → T (not (has (m .id) (ids (d .executed))))
     here n = nor-fst (has (m .id) (ids (d .executed))) (has (m .id) (ids (d .waiting))) n
@@ -345,7 +332,7 @@ receive-reach d m p pe r = go (judge-case d m)
       | inr x ↦ prefix-has (ids (d .executed)) (sound-counted (d .executed) (r .sound)) i pi (subst (λ (k : ℕ). i .number ≤ tally k (ids (d .executed))) (sym q) (nltb→le (tally (d .own) (ids (d .executed))) (i .number) x))
     ]
 
-    wait : Arrives d m → Wait (d .own) (d .executed) m
+    wait : Arrives rules d m → Wait (d .own) (d .executed) m
     wait a = record {
       pos = p;
       fresh = here (absent-both d m a);
@@ -353,7 +340,7 @@ receive-reach d m p pe r = go (judge-case d m)
       asks = λ e te q. made e (pe e te) (not-T (unmade d e) (λ u. T-not (any (unmade d) (m .stamp)) (nor-snd (unmade d (m .id)) (any (unmade d) (m .stamp)) (rw (a .made) tt)) (any-of (unmade d) (m .stamp) e te u))) q;
     }
 
-    go : {j : Answer (Judgement Mark)} → JudgeCase d m j → ReachState ((act d j) .state)
+    go : {j : Answer (Judgement Mark)} → JudgeCase rules d m j → ReachState ((act d j) .state)
     go (to-refuse c) = r
     go to-know = r
     go (to-wait a b c) = record { sound = r .sound; wait = (wait a, r .wait) }

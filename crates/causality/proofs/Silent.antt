@@ -1,25 +1,26 @@
 -- Order 6 at one desk, whatever bytes it was lent: what is executed stays, with its past, so a mark that follows all of a desk goes on doing so. Assumes nothing.
-use Prim.Native.Nat.{_≤_, suc, zero, ℕ}
+use Prim.Native.Nat.{_≤_, ℕ}
 use lib.Dec.{T, T-not, eqb, eqb→eq, not-T}
 use lib.ListN.{length}
-use mathlib.Core.Bool.{Bool, false, not, true}
+use mathlib.Core.Bool.{not}
 use mathlib.Core.List.{List, _∷_}
-use mathlib.Core.Option.{Option, none, some}
 use mathlib.Core.Path.{_∙_, _≡_, refl}
 use Rattle.frame.specs.declared.MarkBox.{MarkBox}
 use Rattle.frame.specs.Answer.{Answer, gives, refused}
 use Rattle.frame.specs.Mark.{MarkId}
 use Rattle.causality.specs.Answers.{Judgement, Numbered}
-use Rattle.causality.specs.Calls.{FromCalls, Later, act, begun, execute, executing, mark, markAnswer, markIn, marked, newMark, receive, received, release, stateIf}
-use Rattle.causality.specs.Marks.{any, has, lowest, same, without}
-use Rattle.causality.specs.Silent.{Leaves, SilentLeaves, SilentLeavesLater, names}
-use Rattle.causality.specs.State.{Mark, State, falseStamp, heads, ids, isHead, markId, precedes, ready, reckoned}
+use Rattle.causality.specs.Calls.{FromCalls, Later, act, begun, execute, mark, markAnswer, markIn, marked, newMark, received, release, rules, stateIf}
+use Rattle.causality.specs.Kinds.{executingBy, markOf, receiveOf}
+use Rattle.causality.specs.Marks.{any, has, same}
+use Rattle.causality.specs.Silent.{SilentLeaves, SilentLeavesLater, names}
+use Rattle.causality.specs.State.{Mark, State, heads, ids, isHead, precedes, reckoned}
 use Rattle.causality.proofs.Cases.{JudgeCase, received-case, to-execute, to-know, to-refuse, to-wait}
 use Rattle.causality.proofs.Kept.{kept}
 use Rattle.causality.proofs.Lists.{any-find, any-of}
 use Rattle.causality.proofs.Logic.{or-inr}
 use Rattle.causality.proofs.Past.{heads-has}
 use Rattle.causality.proofs.Reach.{Sound, local, not-new, precedes-old}
+use Rattle.causality.proofs.Releases.{release-keeps}
 
 -- AS IT STANDS
 
@@ -48,27 +49,17 @@ newer-all a none-newer = a
 newer-all a (one-newer m b) = one-newer m (newer-all a b)
 
 release-newer : (turns : ℕ) (l ws : List Mark) (k f : ℕ) → Newer l ((release turns l ws k f) .executed)
-release-newer zero l ws k f = none-newer
-release-newer (suc turns) l ws k f = go (lowest markId (ready l) ws) refl (release-newer turns)
-  where
-    go : (o : Option Mark) → lowest markId (ready l) ws ≡ o → ((l ws : List Mark) (k f : ℕ) → Newer l ((release turns l ws k f) .executed))
-        → Newer l ((release (suc turns) l ws k f) .executed)
-    go none e ih = rw (e, release) none-newer
-    go (some w) e ih = by (falseStamp l w) refl
-      where
-        by : (b : Bool) → falseStamp l w ≡ b → Newer l ((release (suc turns) l ws k f) .executed)
-        by true x = rw (e, release) (rw x (ih l (without markId (w .id) ws) k (suc f)))
-        by false x = rw (e, release) (rw x (newer-all (one-newer (reckoned l w) none-newer) (ih (reckoned l w ∷ l) (without markId (w .id) ws) (suc k) f)))
+release-newer turns l ws k f = release-keeps rules (λ l′ ws′ k′ f′. Newer l l′) (λ l′ ws′ k′ f′ w n e. n) (λ l′ ws′ k′ f′ w n e t. one-newer (reckoned l′ w) n) turns l ws k f none-newer
 
-receive-newer : (st : State) (m : Mark) (j : Answer (Judgement Mark)) → JudgeCase st m j → Newer (st .executed) ((act st j) .state .executed)
-unfolding executing
+receive-newer : (st : State) (m : Mark) (j : Answer (Judgement Mark)) → JudgeCase rules st m j → Newer (st .executed) ((act st j) .state .executed)
+unfolding executingBy
 receive-newer st m j (to-refuse c) = none-newer
 receive-newer st m j to-know = none-newer
 receive-newer st m j (to-wait a b c) = none-newer
 receive-newer st m j (to-execute a b c) = newer-all (one-newer (reckoned (st .executed) m) none-newer) (release-newer (length (st .waiting)) (reckoned (st .executed) m ∷ st .executed) (st .waiting) 1 0)
 
 mark-newer : (N : ℕ) (st : State) (b : MarkBox) (out : List ℕ) → Newer (st .executed) ((mark N st b out) .state .executed)
-unfolding mark
+unfolding markOf
 mark-newer N st b out = go (markAnswer N st b (length out))
   where
     go : (a : Answer Numbered) → Newer (st .executed) ((stateIf a (execute (newMark st b) st) st) .executed)
@@ -76,7 +67,7 @@ mark-newer N st b out = go (markAnswer N st b (length out))
     go (refused c) = none-newer
 
 later-newer : (N : ℕ) {st later : State} → Later N st later → Newer (st .executed) (later .executed)
-unfolding receive
+unfolding receiveOf
 later-newer N (begun u) = none-newer
 later-newer N (marked {st = x} p b out) = newer-all (later-newer N p) (mark-newer N x b out)
 later-newer N (received {st = x} p s) = newer-all (later-newer N p) (receive-newer x (markIn N s) _ (received-case N x s))

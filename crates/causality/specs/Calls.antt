@@ -1,33 +1,24 @@
--- The seven calls of document 01 and the two conversions of order 3, as functions of the state, of bytes and of lent memory. Conditions by rising number.
+-- The seven calls of document 01 and the two conversions of order 3 at our desks, as functions of the state, of bytes and of lent memory: New, Mark, Receive and
+-- Relate are those of Kinds.antt. Conditions by rising number.
 use mathlib.Core.Bool.{Bool, true, false, not, _&&_, _||_}
-use mathlib.Core.List.{List, [], _∷_, _++_, reverse}
+use mathlib.Core.List.{List, [], _∷_, reverse}
 use mathlib.Core.Option.{none, some}
-use Prim.Native.Nat.{ℕ, zero, suc, _+_, min}
+use Prim.Native.Nat.{ℕ, zero, suc, min}
 use lib.Dec.{ltb, eqb}
 use lib.ListN.{length}
 use Rattle.frame.specs.Answer.{Answer, gives, refused, refuseIf}
-use Rattle.frame.specs.Mark.{MarkId, isDesk, boxRule}
+use Rattle.frame.specs.Mark.{MarkId, isDesk}
 use Rattle.frame.specs.Frame.{entriesOf, entryBytes, fieldsOf, frameOf, readFields, readEntries, writeSize, overIf}
 use Rattle.frame.specs.declared.Fields.{Fields}
 use Rattle.frame.specs.declared.MarkBox.{MarkBox}
 use Rattle.frame.specs.declared.Past.{Past}
 use Rattle.frame.specs.declared.Past.the-variants.{Unsaid, Said}
-use Rattle.causality.specs.Answers.{Numbered, Judgement, knows, waits, executes, Reply, Known, Waiting, Executed, Relation, Same, Before, After, Concurrent}
-use Rattle.causality.specs.Marks.{places, waitingPlaces, same, any, keep, has, tally, find, without, lowest}
+use Rattle.causality.specs.Answers.{Numbered, Judgement, Relation}
+use Rattle.causality.specs.Kinds.{Rules, Kind, CreatedOf, MarkedOf, ReceivedOf, ReleaseOf, ByCalls, newOf, markAnswerOf, markOf, admitBy, judgeBy, releaseBy, actBy, receiveOf, relateBy}
+use Rattle.causality.specs.Marks.{same, any, keep, has, tally, find}
 use Rattle.causality.specs.State.{Mark, markId, State, ids, precedes, reckoned, concurrent, heads, ready, missing, sameCount, falseStamp, withPast}
-
--- NEW
-
-abbrev pub empty : ℕ → State
-empty d = record { own = d; executed = []; waiting = [] }
-
-pub record Created : Type 0 where
-  pub state : State
-  pub answer : Answer ℕ
-
--- "a desk number gives an empty desk"; "A refused New gives an empty desk 1 beside the 1."
-unfoldable pub new : ℕ → ℕ → Created
-new N d = elim (isDesk N d) [ true ↦ record { state = empty d; answer = gives d } | false ↦ record { state = empty 1; answer = refused 1 } ]
+unfoldable pub use Rattle.causality.specs.Kinds.{empty, numbered, andThen, full, stateIf, execute}
+pub use Rattle.causality.specs.Kinds.{begun, marked, received}
 
 -- FRAMES OF MARKS, of edition 2 where the past is said, else of edition 1
 
@@ -52,10 +43,6 @@ markIn N s = record {
 
 -- MARK
 
--- "executed + waiting = 512".
-unfoldable pub full : State → Bool
-full st = eqb (length (st .executed) + length (st .waiting)) places
-
 -- "a box becomes this desk's next number, stamped with the heads"; all executed marks precede it.
 unfoldable pub newMark : State → MarkBox → Mark
 newMark st b = record {
@@ -65,42 +52,7 @@ newMark st b = record {
   past = Said (length (st .executed));
 }
 
--- "its number and the frame's size are returned".
-abbrev pub numbered : ℕ → Answer ℕ → Answer Numbered
-numbered n (gives size) = gives (record { number = n; size = size })
-numbered n (refused c) = refused c
-
-unfoldable pub markAnswer : ℕ → State → MarkBox → ℕ → Answer Numbered
-markAnswer N st b lent =
-    refuseIf (not (boxRule b)) 5 (refuseIf (full st) 9
-    (numbered (newMark st b .id .number) (sizeOfMark N (newMark st b) lent)))
-
--- A refusal "leaves desk and lent memory as found".
-abbrev pub stateIf : {A : Type 0} → Answer A → State → State → State
-stateIf (gives a) after st = after
-stateIf (refused c) after st = st
-
-abbrev pub execute : Mark → State → State
-execute m st = record { own = st .own; executed = m ∷ st .executed; waiting = st .waiting }
-
-pub record Marked : Type 0 where
-  pub state : State
-  pub answer : Answer Numbered
-  pub bytes : List ℕ
-
--- The mark is executed, "its frame is written out as by the writer"; "It releases no waiting mark."
-unfoldable pub mark : ℕ → State → MarkBox → List ℕ → Marked
-mark N st b out = record {
-  state = stateIf (markAnswer N st b (length out)) (execute (newMark st b) st) st;
-  answer = markAnswer N st b (length out);
-  bytes = overIf (markAnswer N st b (length out)) (frameOfMark (newMark st b)) out;
-}
-
 -- RECEIVE
-
-pub record Received : Type 0 where
-  pub state : State
-  pub answer : Answer Reply
 
 -- 7: "of this desk and not yet made".
 unfoldable pub unmade : State → MarkId → Bool
@@ -119,87 +71,73 @@ sameEntries (e ∷ es) (f ∷ fs) = same e f && sameEntries es fs
 unfoldable pub sameFields : Mark → Mark → Bool
 sameFields h m = sameBox (h .extent) (m .extent) && (sameEntries (h .stamp) (m .stamp) && sameCount (h .past) (m .past))
 
--- A mark that is neither executed nor waiting here: 9; "not ready, 64 waiting": 10; "ready, false stamp": 11.
-unfoldable pub admit : State → Mark → Answer (Judgement Mark)
-admit st m =
-    refuseIf (full st) 9
-    (elim (ready (st .executed) m) [
-      | false ↦ refuseIf (eqb (length (st .waiting)) waitingPlaces) 10 (gives (waits m (missing (st .executed) m)))
-      | true ↦ refuseIf (falseStamp (st .executed) m) 11 (gives (executes (reckoned (st .executed) m)))
-    ])
-
--- What Receive finds of a mark: 7; "Known (executed or waiting here with the same ..)", beside 8: "same mark executed or waiting with other .."; else the above.
-unfoldable pub judge : State → Mark → Answer (Judgement Mark)
-judge st m =
-    refuseIf (unmade st (m .id) || any (unmade st) (m .stamp)) 7
-    (elim (find markId (m .id) (st .executed ++ st .waiting)) [
-      | some h ↦ refuseIf (not (sameFields h m)) 8 (gives knows)
-      | none ↦ admit st m
-    ])
-
--- What the release has come to: k executed and f dropped.
-pub record Release : Type 0 where
-  pub executed : List Mark
-  pub waiting : List Mark
-  pub k : ℕ
-  pub f : ℕ
-
--- "the ready waiting mark of lowest desk is executed, or dropped if its stamp is false; repeat until none is ready". Each
--- turn takes a waiting mark, so as many turns as marks wait are enough.
-abbrev pub release : ℕ → List Mark → List Mark → ℕ → ℕ → Release
-release zero executed waiting k f = record { executed = executed; waiting = waiting; k = k; f = f }
-release (suc turns) executed waiting k f =
-    elim (lowest markId (ready executed) waiting) [
-      | none ↦ record { executed = executed; waiting = waiting; k = k; f = f }
-      | some w ↦ elim (falseStamp executed w) [
-        | true ↦ release turns executed (without markId (w .id) waiting) k (suc f)
-        | false ↦ release turns (reckoned executed w ∷ executed) (without markId (w .id) waiting) (suc k) f
-      ]
-    ]
-
--- "k counts all executed by the call, f the dropped".
-unfoldable pub executing : State → Mark → Received
-executing st m =
-    let r = release (length (st .waiting)) (m ∷ st .executed) (st .waiting) 1 0 in
-    record { state = record { own = st .own; executed = r .executed; waiting = r .waiting }; answer = gives (Executed (r .k) (r .f)) }
-
--- What comes of it. Known "leaves the desk as it was", and so does a refusal. Order 1: "Waiting carries that number".
-abbrev pub act : State → Answer (Judgement Mark) → Received
-act st (refused c) = record { state = st; answer = refused c }
-act st (gives knows) = record { state = st; answer = gives Known }
-act st (gives (waits m short)) = record { state = record { own = st .own; executed = st .executed; waiting = m ∷ st .waiting }; answer = gives (Waiting short) }
-act st (gives (executes m)) = executing st m
-
-abbrev pub receiveMark : State → Mark → Received
-receiveMark st m = act st (judge st m)
-
--- What is answered of what was read; a refusal stays.
-abbrev pub andThen : {A B : Type 0} → Answer A → (A → Answer B) → Answer B
-andThen (gives a) f = f a
-andThen (refused c) f = refused c
-
 -- The mark that a frame spells, where the reader accepts it: 2 to 6.
 unfoldable pub readMark : ℕ → List ℕ → Answer Mark
 readMark N s = andThen (readFields N s) (λ f. gives (markIn N s))
 
-unfoldable pub receive : ℕ → State → List ℕ → Received
-receive N st s = act st (andThen (readMark N s) (judge st))
+-- OUR KIND OF DESK: New, Mark, Receive and Relate are those of every kind, at these marks.
+
+abbrev pub rules : Rules Mark
+rules = record {
+  nameOf = markId;
+  unmade = λ st m. unmade st (m .id) || any (unmade st) (m .stamp);
+  agrees = sameFields;
+  ready = ready;
+  short = missing;
+  falseStamp = falseStamp;
+  reckoned = reckoned;
+  precedes = precedes;
+}
+
+abbrev pub ourKind : ℕ → Kind Mark
+ourKind N = record { rules = rules; newMark = newMark; frame = frameOfMark; write = sizeOfMark N; read = readMark N }
+
+abbrev pub Created : Type 0
+Created = CreatedOf Mark
+
+abbrev pub Marked : Type 0
+Marked = MarkedOf Mark
+
+abbrev pub Received : Type 0
+Received = ReceivedOf Mark
+
+abbrev pub Release : Type 0
+Release = ReleaseOf Mark
+
+abbrev pub new : ℕ → ℕ → Created
+new = newOf
+
+abbrev pub markAnswer : ℕ → State → MarkBox → ℕ → Answer Numbered
+markAnswer N = markAnswerOf (ourKind N)
+
+abbrev pub mark : ℕ → State → MarkBox → List ℕ → Marked
+mark N = markOf (ourKind N)
+
+abbrev pub admit : State → Mark → Answer (Judgement Mark)
+admit = admitBy rules
+
+abbrev pub judge : State → Mark → Answer (Judgement Mark)
+judge = judgeBy rules
+
+abbrev pub release : ℕ → List Mark → List Mark → ℕ → ℕ → Release
+release = releaseBy rules
+
+abbrev pub act : State → Answer (Judgement Mark) → Received
+act = actBy rules
+
+abbrev pub receiveMark : State → Mark → Received
+receiveMark st m = act st (judge st m)
+
+abbrev pub receive : ℕ → State → List ℕ → Received
+receive N = receiveOf (ourKind N)
+
+abbrev pub relate : State → MarkId → MarkId → Answer Relation
+relate = relateBy rules
 
 -- QUERIES: the state stays as it is
 
 abbrev pub isExecuted : State → MarkId → Bool
 isExecuted st i = has i (ids (st .executed))
-
-unfoldable pub relate : State → MarkId → MarkId → Answer Relation
-relate st a b =
-    refuseIf (not (isExecuted st a && isExecuted st b)) 12 (gives
-    (elim (same a b) [
-      | true ↦ Same
-      | false ↦ elim (precedes (st .executed) a b) [
-        | true ↦ Before
-        | false ↦ elim (precedes (st .executed) b a) [ true ↦ After | false ↦ Concurrent ]
-      ]
-    ]))
 
 -- "the executed marks concurrent with a given one, by place".
 unfoldable pub apartOf : State → MarkId → List MarkId
@@ -275,16 +213,10 @@ toFirstBytes N s out = overIf (toFirstSize N s (length out)) (frameOfMark (withP
 
 -- WHERE A DESK COMES FROM
 
--- What calls make of the desks `first`, whatever bytes they are lent. The queries and the conversions give the desk that they took.
-pub data ByCalls (N : ℕ) {A : Type 0} (first : A → State) : State → Type 0 where
-  begun : (a : A) → ByCalls N first (first a)
-  marked : {st : State} → ByCalls N first st → (b : MarkBox) (out : List ℕ) → ByCalls N first (mark N st b out .state)
-  received : {st : State} → ByCalls N first st → (s : List ℕ) → ByCalls N first (receive N st s .state)
-
 -- "A desk comes only from New and these calls".
 abbrev pub FromCalls : ℕ → State → Type 0
-FromCalls N = ByCalls N (λ d. new N d .state)
+FromCalls N = ByCalls (ourKind N) (λ d. new N d .state)
 
 -- What further calls make of a desk.
 abbrev pub Later : ℕ → State → State → Type 0
-Later N st = ByCalls N (λ (u : Unit {0}). st)
+Later N st = ByCalls (ourKind N) (λ (u : Unit {0}). st)

@@ -1,6 +1,6 @@
 -- One desk as document 01 says it, on lists: its marks, precedence, reckoning, heads, ready marks and false stamps.
 use mathlib.Core.Bool.{Bool, true, false, not, _&&_, _||_, cond}
-use mathlib.Core.List.{List, [], _∷_}
+use mathlib.Core.List.{List, [], _∷_, map}
 use Prim.Native.Nat.{ℕ, _+_, _-_}
 use lib.Dec.{T, eqb, leb, ltb}
 use lib.ListN.{length}
@@ -8,6 +8,7 @@ use Rattle.frame.specs.Mark.{MarkId}
 use Rattle.frame.specs.declared.MarkBox.{MarkBox}
 use Rattle.frame.specs.declared.Past.{Past}
 use Rattle.frame.specs.declared.Past.the-variants.{Unsaid, Said}
+use Rattle.causality.specs.Kinds.{StateOf}
 use Rattle.causality.specs.Marks.{same, any, all, keep, has, rising}
 
 -- A mark (operation) with its box, its stamp and what is said of its past. A stamp is the paper's direct causal vector (Definition 4). Of an
@@ -24,16 +25,12 @@ withPast m p = record { id = m .id; extent = m .extent; stamp = m .stamp; past =
 abbrev pub markId : Mark → MarkId
 markId m = m .id
 
--- What a desk (site) is: its own number, its executed marks (the history buffer), newest first, and its waiting ones. The
--- place of an executed mark, the paper's E_SEQ, is the count of the marks behind it.
-pub record State : Type 0 where
-  pub own : ℕ
-  pub executed : List Mark
-  pub waiting : List Mark
+-- Our desk.
+abbrev pub State : Type 0
+State = StateOf Mark
 
 abbrev pub ids : List Mark → List MarkId
-ids [] = []
-ids (m ∷ ms) = m .id ∷ ids ms
+ids ms = map markId ms
 
 -- "From an executed mark, follow the entries of its stamp, and theirs, down to marks with none: the marks met precede it
 -- (Theorem 1)." Does a precede b? The list falls at each call, since the entries of a mark were executed before it.

@@ -177,7 +177,7 @@ module _ (count : ℕ) (ds ns ts ls bf : List ℕ) (l : Lent count ds ns ts ls b
   unfolding placeAt
   found-place bs ss = elim (split (ltb r places)) [
     | inl t ↦ let h = at-place width ds ns bs ss count a r (place-in bs ss .stands (ltb→lt r places t)) in rw (lt-ltb r count (h .0), placeAt) (sym (h .1))
-    | inr t ↦ let o = nltb→le r places t in let w = l .few in rw (le-ltb r count (omega arith), placeAt) (sym (go (find markId a (view width count ds ns bs ss)) (sym (find-has a (view width count ds ns bs ss)) ∙ place-in bs ss .none o)))
+    | inr t ↦ let o = nltb→le r places t in let w = l .few in rw (le-ltb r count (omega arith), placeAt) (sym (go (find markId a (view width count ds ns bs ss)) (sym (find-has markId a (view width count ds ns bs ss)) ∙ place-in bs ss .none o)))
   ]
     where
       go : (o : Option Mark) → isSome o ≡ false → o ≡ none

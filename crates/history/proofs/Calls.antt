@@ -14,16 +14,18 @@ use Rattle.frame.specs.Answer.{Answer, gives, refuseIf, refused}
 use Rattle.frame.specs.Frame.{overIf}
 use Rattle.frame.specs.Mark.{MarkId, boxRule}
 use Rattle.causality.specs.Answers.{Executed, Known, Numbered, Reception, Reply, knows}
-use Rattle.causality.specs.Calls.{Received, Release, act, admit, execute, executing, frameOfMark, full, judge, mark, markAnswer, newMark, receiveMark, release, sameFields, stateIf, unmade}
-use Rattle.causality.specs.Marks.{All, all, any, find, has, insert, keep, lower, lowest, rising, same, tally, waitingPlaces, without}
+use Rattle.causality.specs.Calls.{Received, Release, act, admit, execute, frameOfMark, full, mark, markAnswer, newMark, receiveMark, release, sameFields, stateIf, unmade}
+use Rattle.causality.specs.Kinds.{admitBy, executingBy, judgeBy, markAnswerOf, markOf, releaseBy}
+use Rattle.causality.specs.Marks.{All, all, any, find, has, insert, keep, lowest, rising, same, tally, waitingPlaces, without}
 use Rattle.causality.specs.State.{Mark, State, falseStamp, heads, ids, isHead, markId, precedes, ready, reckoned, sameCount, withPast}
 use Rattle.causality.proofs.Fit.{Fit, fit-size, markSize}
 use Rattle.causality.proofs.Kept.{Kept, new-fit}
-use Rattle.causality.proofs.Lists.{Picked, absent-all, all-append, all-map, any-cong, find-all, find-has, has-append, ids-append, isSome, lowest-picked, nor-fst, nor-snd, without-all}
+use Rattle.causality.proofs.Lists.{Picked, absent-all, all-append, all-map, any-cong, find-all, find-has, has-append, map-append, isSome, lowest-picked, nor-fst, nor-snd, without-all}
 use Rattle.causality.proofs.Logic.{or-cases, same-refl, same→eq}
 use Rattle.causality.proofs.Past.{Good, Standing, Stands, precedes-past, ready-past, ready-stands, tally-le}
 use Rattle.causality.proofs.Reckoning.{Once, not-false-stamp, reckoned-past, stands-with}
-use Rattle.history.specs.Plain.{DeskLists, MadeMark, Outcome, executeReady, frameSize, handOver, isLast, leaveOut, listsFull, madeId, madeIds, making, newMade, pastListed}
+use Rattle.causality.proofs.Images.{lowest-image, names-image, without-image}
+use Rattle.history.specs.Plain.{DeskLists, MadeMark, Outcome, executeReady, frameSize, handOver, isLast, leaveOut, listsFull, madeId, madeIds, making, makingBy, newMade, pastListed}
 use Rattle.history.specs.Run.{withoutMissing}
 
 -- past: of each mark made in the whole sequence
@@ -31,42 +33,12 @@ module _ (past : MarkId → List MarkId) where
   unfoldable pub madeOf : Mark → MadeMark
   madeOf m = record { id = m .id; extent = m .extent; past = past (m .id) }
 
+  pub made-named : (m : Mark) → madeId (madeOf m) ≡ markId m
+  unfolding madeOf
+  made-named m = refl
+
   pub made-ids : (ms : List Mark) → madeIds (map madeOf ms) ≡ ids ms
-  unfolding madeOf
-  made-ids [] = refl
-  made-ids (m ∷ ms) = ap (λ (l : List MarkId). m .id ∷ l) (made-ids ms)
-
-  map-append : (ms ns : List Mark) → map madeOf (ms ++ ns) ≡ map madeOf ms ++ map madeOf ns
-  map-append [] ns = refl
-  map-append (m ∷ ms) ns = ap (λ (l : List MadeMark). madeOf m ∷ l) (map-append ms ns)
-
-  lowest-map : (p : Mark → Bool) (q : MadeMark → Bool) (ws : List Mark) → All (λ w. q (madeOf w) ≡ p w) ws → lowest madeId q (map madeOf ws) ≡ Option·map madeOf (lowest markId p ws)
-  unfolding madeOf
-  lowest-map p q [] a = refl
-  lowest-map p q (v ∷ vs) a = start (a .0) (lowest-map p q vs (a .1)) ∙ go (p v) (lowest markId p vs)
-    where
-      start : q (madeOf v) ≡ p v → lowest madeId q (map madeOf vs) ≡ Option·map madeOf (lowest markId p vs)
-          → lowest madeId q (map madeOf (v ∷ vs)) ≡ elim (p v) [ true ↦ some (lower madeId (madeOf v) (Option·map madeOf (lowest markId p vs))) | false ↦ Option·map madeOf (lowest markId p vs) ]
-      start e ih = λ i. elim (e i) [ true ↦ some (lower madeId (madeOf v) (ih i)) | false ↦ ih i ]
-
-      two : (b : Bool) (u : Mark) → some (elim b [ true ↦ madeOf u | false ↦ madeOf v ]) ≡ Option·map madeOf (some (elim b [ true ↦ u | false ↦ v ]))
-      two true u = refl
-      two false u = refl
-
-      go : (b : Bool) (o : Option Mark) → elim b [ true ↦ some (lower madeId (madeOf v) (Option·map madeOf o)) | false ↦ Option·map madeOf o ] ≡ Option·map madeOf (elim b [ true ↦ some (lower markId v o) | false ↦ o ])
-      go true none = refl
-      go true (some u) = two (ltb (u .id .desk) (v .id .desk)) u
-      go false o = refl
-
-  without-map : (i : MarkId) (ws : List Mark) → without madeId i (map madeOf ws) ≡ map madeOf (without markId i ws)
-  unfolding madeOf
-  without-map i [] = refl
-  without-map i (v ∷ vs) = go (same i (v .id)) (without-map i vs)
-    where
-      go : (b : Bool) → without madeId i (map madeOf vs) ≡ map madeOf (without markId i vs)
-          → elim b [ true ↦ without madeId i (map madeOf vs) | false ↦ madeOf v ∷ without madeId i (map madeOf vs) ] ≡ map madeOf (elim b [ true ↦ without markId i vs | false ↦ v ∷ without markId i vs ])
-      go true ih = ih
-      go false ih = ap (λ (l : List MadeMark). madeOf v ∷ l) ih
+  made-ids = names-image markId madeId madeOf made-named
 
   listed-past : (l : List Mark) (m : Mark) → pastListed (map madeOf l) (madeOf m) ≡ all (λ a. has a (ids l)) (past (m .id))
   unfolding madeOf pastListed
@@ -111,11 +83,11 @@ module _ (past : MarkId → List MarkId) where
       pub grows : (e : ℕ) → tally e (ids l) ≤ tally e (ids (r .executed))
 
     release-none : (turns : ℕ) (l ws : List Mark) (k f : ℕ) → lowest markId (ready l) ws ≡ none → release (suc turns) l ws k f ≡ record { executed = l; waiting = ws; k = k; f = f }
-    release-none turns l ws k f e = rw (e, release)
+    release-none turns l ws k f e = rw (e, releaseBy)
 
     release-some : (turns : ℕ) (l ws : List Mark) (k f : ℕ) (w : Mark) → lowest markId (ready l) ws ≡ some w → falseStamp l w ≡ false
         → release (suc turns) l ws k f ≡ release turns (reckoned l w ∷ l) (without markId (w .id) ws) (suc k) f
-    release-some turns l ws k f w e e′ = rw (e, release) (rw e′)
+    release-some turns l ws k f w e e′ = rw (e, releaseBy) (rw e′)
 
     execute-none : (turns : ℕ) (l ws : List MadeMark) → lowest madeId (pastListed l) ws ≡ none → executeReady (suc turns) l ws ≡ record { listed = l; waiting = ws }
     execute-none turns l ws e = rw (e, executeReady)
@@ -158,7 +130,7 @@ module _ (past : MarkId → List MarkId) where
     release-ok c (suc turns) l ws k f o = go (lowest markId (ready l) ws) refl (release-ok c turns)
       where
         same-pick : lowest madeId (pastListed (map madeOf l)) (map madeOf ws) ≡ Option·map madeOf (lowest markId (ready l) ws)
-        same-pick = lowest-map (ready l) (pastListed (map madeOf l)) ws (all-map (λ w x. listed-ready l (o .hist) w (x .good)) ws (o .lacks))
+        same-pick = lowest-image markId madeId madeOf made-named (ready l) (pastListed (map madeOf l)) ws (all-map (λ w x. listed-ready l (o .hist) w (x .good)) ws (o .lacks))
 
         go : (p : Option Mark) → lowest markId (ready l) ws ≡ p
             → ((l ws : List Mark) (k f : ℕ) → Consistent l ws → Released turns l ws k f (release turns l ws k f))
@@ -166,12 +138,12 @@ module _ (past : MarkId → List MarkId) where
         go none e ih = subst (Released (suc turns) l ws k f) (sym (release-none turns l ws k f e))
             (record { sim = execute-none turns (map madeOf l) (map madeOf ws) (same-pick ∙ ap (Option·map madeOf) e); growth = refl; none-false = refl; ok = o; grows = λ e. omega arith })
         go (some w) e ih =
-            let pk : Unlisted l w × T (ready l w) = subst (Picked (Unlisted l) (ready l)) e (lowest-picked (Unlisted l) (ready l) ws (o .lacks)) in
+            let pk : Unlisted l w × T (ready l w) = lowest-picked markId (Unlisted l) (ready l) ws (o .lacks) w e in
             let nf : falseStamp l w ≡ false = no-false c l (o .hist) w (pk .0) (pk .1) in
-            let r : Released turns (reckoned l w ∷ l) (without markId (w .id) ws) (suc k) f (release turns (reckoned l w ∷ l) (without markId (w .id) ws) (suc k) f) = ih (reckoned l w ∷ l) (without markId (w .id) ws) (suc k) f (ok-add c l (without markId (w .id) ws) (o .hist) (o .ks) w (pk .0) (pk .1) (without-all (Unlisted l) (w .id) ws (o .lacks))) in
+            let r : Released turns (reckoned l w ∷ l) (without markId (w .id) ws) (suc k) f (release turns (reckoned l w ∷ l) (without markId (w .id) ws) (suc k) f) = ih (reckoned l w ∷ l) (without markId (w .id) ws) (suc k) f (ok-add c l (without markId (w .id) ws) (o .hist) (o .ks) w (pk .0) (pk .1) (without-all markId (Unlisted l) (w .id) ws (o .lacks))) in
             subst (Released (suc turns) l ws k f) (sym (release-some turns l ws k f w e nf))
             (record {
-              sim = execute-some turns (map madeOf l) (map madeOf ws) (madeOf w) (same-pick ∙ ap (Option·map madeOf) e) ∙ ap (λ (x : List MadeMark). executeReady turns (madeOf w ∷ map madeOf l) x) (without-map (w .id) ws) ∙ r .sim;
+              sim = execute-some turns (map madeOf l) (map madeOf ws) (madeOf w) (same-pick ∙ ap (Option·map madeOf) e) ∙ ap (λ (x : List MadeMark). executeReady turns (madeOf w ∷ map madeOf l) x) (without-image markId madeId madeOf made-named (w .id) ws) ∙ r .sim;
               growth = let g = r .growth in omega arith;
               none-false = r .none-false;
               ok = r .ok;
@@ -195,17 +167,17 @@ module _ (past : MarkId → List MarkId) where
 
     known-has : (d : State) (m : Mark) → has ((madeOf m) .id) (madeIds ((listsOf d) .listed ++ (listsOf d) .waiting)) ≡ isSome (find markId (m .id) (d .executed ++ d .waiting))
     unfolding madeOf
-    known-has d m = ap (λ (l : List MadeMark). has (m .id) (madeIds l)) (sym (map-append (d .executed) (d .waiting))) ∙ ap (has (m .id)) (made-ids (d .executed ++ d .waiting)) ∙ find-has (m .id) (d .executed ++ d .waiting)
+    known-has d m = ap (λ (l : List MadeMark). has (m .id) (madeIds l)) (sym (map-append madeOf (d .executed) (d .waiting))) ∙ ap (has (m .id)) (made-ids (d .executed ++ d .waiting)) ∙ find-has markId (m .id) (d .executed ++ d .waiting)
 
     -- A mark that is neither executed nor waiting.
     admit-ok : Closed → (d : State) (m : Mark) → Consistent (d .executed) (d .waiting) → Good past m → K m → T (not (has (m .id) (ids (d .executed ++ d .waiting))))
         → has ((madeOf m) .id) (madeIds ((listsOf d) .listed ++ (listsOf d) .waiting)) ≡ false
         → Matches d (handOver (listsOf d) (madeOf m)) (act d (admit d m))
-    unfolding handOver admit executing leaveOut madeOf
+    unfolding handOver admitBy executingBy leaveOut madeOf
     admit-ok c d m o g km n unknown = go (full d) (ready (d .executed) m) (eqb (length (d .waiting)) waitingPlaces) refl refl refl
       where
         n′ : T (not (has (m .id) (ids (d .executed)) || has (m .id) (ids (d .waiting))))
-        n′ = rw (ids-append (d .executed) (d .waiting), has-append (m .id) (ids (d .executed)) (ids (d .waiting))) at n
+        n′ = rw (map-append markId (d .executed) (d .waiting), has-append (m .id) (ids (d .executed)) (ids (d .waiting))) at n
 
         lm : Unlisted (d .executed) m
         lm = record { good = g; fresh = nor-fst (has (m .id) (ids (d .executed))) (has (m .id) (ids (d .waiting))) n′; k = km }
@@ -216,7 +188,7 @@ module _ (past : MarkId → List MarkId) where
         exec : T (ready (d .executed) m) → Released (length (d .waiting)) (reckoned (d .executed) m ∷ d .executed) (d .waiting) 1 0 (release (length (d .waiting)) (reckoned (d .executed) m ∷ d .executed) (d .waiting) 1 0)
         exec t = release-ok c (length (d .waiting)) (reckoned (d .executed) m ∷ d .executed) (d .waiting) 1 0
             (ok-add c (d .executed) (d .waiting) (o .hist) (o .ks) m lm t
-            (absent-all (Unlisted (d .executed)) (m .id) (d .waiting) (nor-snd (has (m .id) (ids (d .executed))) (has (m .id) (ids (d .waiting))) n′) (o .lacks)))
+            (absent-all markId (Unlisted (d .executed)) (m .id) (d .waiting) (nor-snd (has (m .id) (ids (d .executed))) (has (m .id) (ids (d .waiting))) n′) (o .lacks)))
 
         nf : T (ready (d .executed) m) → falseStamp (d .executed) m ≡ false
         nf t = no-false c (d .executed) (o .hist) m lm t
@@ -236,26 +208,26 @@ module _ (past : MarkId → List MarkId) where
 
         go : (a b c : Bool) → full d ≡ a → ready (d .executed) m ≡ b → eqb (length (d .waiting)) waitingPlaces ≡ c → Matches d (handOver (listsOf d) (madeOf m)) (act d (admit d m))
         go true b c ea eb ec = rw (unknown, handOver) (rw (lists-full d) (rw ea (unchanged d (refused 9) o)))
-        go false false true ea eb ec = rw (unknown, handOver) (rw (lists-full d) (rw (ea, admit) (rw lr (rw eb (rw (length-map (d .waiting) madeOf) (rw ec (unchanged d (refused 10) o)))))))
-        go false false false ea eb ec = rw (unknown, handOver) (rw (lists-full d) (rw (ea, admit) (rw lr (rw eb (rw (length-map (d .waiting) madeOf) (rw ec
+        go false false true ea eb ec = rw (unknown, handOver) (rw (lists-full d) (rw (ea, admitBy) (rw lr (rw eb (rw (length-map (d .waiting) madeOf) (rw ec (unchanged d (refused 10) o)))))))
+        go false false false ea eb ec = rw (unknown, handOver) (rw (lists-full d) (rw (ea, admitBy) (rw lr (rw eb (rw (length-map (d .waiting) madeOf) (rw ec
             (record { sim = refl; own = refl; ok = record { hist = o .hist; ks = o .ks; lacks = (lm, o .lacks) }; grows = λ e. omega arith })))))))
         go false true c ea eb ec =
             let t : T (ready (d .executed) m) = rw eb tt in
             let x = exec t in
-            rw (unknown, handOver) (rw (lists-full d) (rw (ea, admit) (rw lr (rw eb (rw (length-map (d .waiting) madeOf) (rw (nf t)
+            rw (unknown, handOver) (rw (lists-full d) (rw (ea, admitBy) (rw lr (rw eb (rw (length-map (d .waiting) madeOf) (rw (nf t)
             (record { sim = same-outcome x; own = refl; ok = x .ok; grows = λ e. let p = tally-le e (m .id) (ids (d .executed)) in let q = x .grows e in omega arith })))))))
 
     -- Receive of a made mark's frame is its hand-over.
     pub receive-ok : Closed → ((m k : Mark) → K m → K k → m .id ≡ k .id → sameFields m k ≡ true) → (d : State) (m : Mark) → Consistent (d .executed) (d .waiting) → Good past m → K m
         → (unmade d (m .id) || any (unmade d) (m .stamp)) ≡ false → Matches d (handOver (listsOf d) (madeOf m)) (receiveMark d m)
-    unfolding handOver judge
-    receive-ok c one d m o g km made = rw (made, judge) (go (find markId (m .id) (d .executed ++ d .waiting)) refl)
+    unfolding handOver judgeBy
+    receive-ok c one d m o g km made = rw (made, judgeBy) (go (find markId (m .id) (d .executed ++ d .waiting)) refl)
       where
         ks : All K (d .executed ++ d .waiting)
         ks = all-append K (d .executed) (d .waiting) (o .ks) (all-map (λ w l. l .k) (d .waiting) (o .lacks))
 
         pick : Picked K (λ w. same (m .id) (w .id)) (find markId (m .id) (d .executed ++ d .waiting))
-        pick = find-all K (m .id) (d .executed ++ d .waiting) ks
+        pick = find-all markId K (m .id) (d .executed ++ d .waiting) ks
 
         go : (p : Option Mark) → find markId (m .id) (d .executed ++ d .waiting) ≡ p
             → Matches d (handOver (listsOf d) (madeOf m)) (act d (elim (find markId (m .id) (d .executed ++ d .waiting)) [
@@ -263,7 +235,7 @@ module _ (past : MarkId → List MarkId) where
               | none ↦ admit d m
             ]))
         go none e = rw e (admit-ok c d m o g km
-            (rw (find-has (m .id) (d .executed ++ d .waiting) ∙ ap isSome e) tt)
+            (rw (find-has markId (m .id) (d .executed ++ d .waiting) ∙ ap isSome e) tt)
             (known-has d m ∙ ap isSome e))
         go (some h) e =
             let k = subst (Picked K (λ w. same (m .id) (w .id))) e pick in
@@ -314,7 +286,7 @@ module _ (past : MarkId → List MarkId) where
 
     -- Mark is the making.
     pub mark-cases : (N : ℕ) (some-desk : 1 ≤ N) (d : State) (box : MarkBox) (out : List ℕ) → Standing past (d .executed) → Kept N some-desk d → MarkCase N d box out
-    unfolding mark markAnswer making leaveOut newMark
+    unfolding markOf markAnswerOf makingBy leaveOut newMark
     mark-cases N some-desk d box out h k = go (boxRule box) (full d) (ltb (length out) (markSize N (newMark d box))) refl refl refl
       where
         fs : frameSize (listsOf d) ≡ markSize N (newMark d box)
@@ -331,16 +303,16 @@ module _ (past : MarkId → List MarkId) where
         mark-is a e = λ i. record { state = stateIf (e i) (execute (newMark d box) d) d; answer = e i; bytes = overIf (e i) (frameOfMark (newMark d box)) out }
 
         go : (a b c : Bool) → boxRule box ≡ a → full d ≡ b → ltb (length out) (markSize N (newMark d box)) ≡ c → MarkCase N d box out
-        go false b c ea eb ec = declined 5 (mark-is (refused 5) (rw ea)) (rw (ea, making))
-        go true true c ea eb ec = declined 9 (mark-is (refused 9) (rw (ea, eb))) (rw (ea, making) (rw lf (rw eb)))
+        go false b c ea eb ec = declined 5 (mark-is (refused 5) (rw ea)) (rw (ea, makingBy))
+        go true true c ea eb ec = declined 9 (mark-is (refused 9) (rw (ea, eb))) (rw (ea, makingBy) (rw lf (rw eb)))
         go true false true ea eb ec =
             let fit = new-fit N some-desk d box k ea eb in
-            declined 13 (mark-is (refused 13) (rw (ea, eb, fit-size N (newMark d box) fit (length out), ec))) (rw (ea, making) (rw lf (rw eb (rw fs (rw ec)))))
+            declined 13 (mark-is (refused 13) (rw (ea, eb, fit-size N (newMark d box) fit (length out), ec))) (rw (ea, makingBy) (rw lf (rw eb (rw fs (rw ec)))))
         go true false false ea eb ec =
             let fit = new-fit N some-desk d box k ea eb in
             let n : Numbered = record { number = suc (tally (d .own) (ids (d .executed))); size = markSize N (newMark d box) } in
             granted n (mark-is (gives n) (rw (ea, eb, fit-size N (newMark d box) fit (length out), ec)))
-            (rw (ea, making) (rw lf (rw eb (rw fs (rw ec (rw tn (rw fs))))))) fit refl
+            (rw (ea, makingBy) (rw lf (rw eb (rw fs (rw ec (rw tn (rw fs))))))) fit refl
 
   pub new-made : (d : State) (box : MarkBox) → past ((newMark d box) .id) ≡ ids (d .executed) → newMade (d .own) (listsOf d) box ≡ madeOf (newMark d box)
   unfolding newMade newMark madeOf

@@ -6,9 +6,9 @@ use mathlib.Core.Path.{_≡_}
 use Rattle.frame.specs.Mark.{MarkId, desks}
 use Rattle.causality.specs.Evidence.{evidence, evidencePairs}
 use Rattle.causality.specs.Marks.{All}
-use Rattle.causality.specs.State.{Mark, State}
+use Rattle.causality.specs.State.{Mark, State, markId}
 use Rattle.causality.proofs.EvidenceLaws.{Agrees, in-past-of, proves}
-use Rattle.causality.proofs.Lists.{all-ids, all-map}
+use Rattle.causality.proofs.Lists.{all-names, all-map}
 use Rattle.causality.proofs.Past.{precedes-past}
 use Rattle.causality.proofs.Reckoning.{Once}
 use Rattle.history.specs.Evidence.{EvidenceHolds, ProvedBy, happenedBefore, ofPast}
@@ -38,7 +38,7 @@ module _ (N : ℕ) (some-desk : 1 ≤ N) (s : List Step) (at : AtDesks N s) (d :
     stamps = all-front (λ m. m .stamp ≡ lastOfPast made (m .id)) (st .executed) (st .waiting) (at-desk N some-desk s at d .stamps);
     precedence = precedes-past (pastOf made) (st .executed) (inv .ok d .hist);
     counts = λ e b t. in-past-of (pastOf made) (st .executed) (inv .ok d .hist) e b t
-        (all-ids (λ i. Once (pastOf made i)) (st .executed) (all-map (λ m k. k .told .once) (st .executed) (inv .ok d .ks)) b t);
+        (all-names markId (λ i. Once (pastOf made i)) (st .executed) (all-map (λ m k. k .told .once) (st .executed) (inv .ok d .ks)) b t);
   }
 
   proved-by : (a b : MarkId) (lent : List MarkId) → ProvedBy made (listsAt (plainOf s) d) a b lent (evidence st a b (length lent)) (evidencePairs st a b lent)

@@ -9,14 +9,15 @@ use mathlib.Core.Path.{subst}
 use native.Mathlib.Omega.{arith}
 use Rattle.frame.specs.Frame.{at2, at4, bytes2, bytes4, countBad, entriesBad, entryBad, fieldsBad, fieldsOf, frameOf, headOf, lengthBad, outputShort, partBad, pastIn, readEntries, readFields, versionBad, writeSize}
 use Rattle.frame.specs.Mark.{MarkId, boxRule, desks, isDesk, isNumber}
-use Rattle.causality.specs.Calls.{admit, executing, fieldsOfMark, frameOfMark, full, judge, mark, markAnswer, markIn, new, newMark, readMark, receive, sameFields, sizeOfMark, unmade}
+use Rattle.causality.specs.Calls.{fieldsOfMark, frameOfMark, full, markIn, newMark, readMark, sameFields, sizeOfMark, unmade}
+use Rattle.causality.specs.Kinds.{admitBy, executingBy, judgeBy, markAnswerOf, markOf, newOf, receiveOf}
 use Rattle.causality.specs.Marks.{all, has, same}
-use Rattle.causality.specs.Silent.{Followed, names}
+use Rattle.causality.specs.Silent.{names}
 use Rattle.causality.specs.State.{falseEntries, falseStamp, heads, isHead, lacksPrevious, missing, missingEntries, previous, ready, reckoning}
 use Rattle.causality.proofs.Lists.{all-at}
 use Rattle.history.specs.Demand3.{entriesIn}
 use Rattle.history.specs.Evidence.{happenedBefore}
-use Rattle.history.specs.Plain.{frameSize, handOver, isLast, leaveOut, listsFull, making, newMade, pastListed, plain}
+use Rattle.history.specs.Plain.{frameSize, handOver, isLast, leaveOut, listsFull, makingBy, newMade, pastListed, plain}
 use Rattle.history.specs.Run.{Step, Written, fed, handing, marking, run}
 use Rattle.history.specs.Silent.{FollowedAt, listedAt}
 
@@ -73,7 +74,7 @@ pub record Shown : Type 0 where
   pub executed-needed : T (not (has21 absent) && (every3 absent && named3 absent))
 
 pub shown : Shown
-unfolding isDesk isNumber boxRule at2 at4 bytes2 bytes4 pastIn fieldsOf headOf frameOf lengthBad versionBad countBad partBad fieldsBad entryBad entriesBad outputShort readFields readEntries writeSize same isHead heads previous ready missingEntries lacksPrevious missing reckoning falseEntries falseStamp new fieldsOfMark frameOfMark sizeOfMark markIn full newMark markAnswer mark executing admit unmade sameFields judge readMark receive leaveOut listsFull pastListed isLast frameSize newMade making handOver
+unfolding isDesk isNumber boxRule at2 at4 bytes2 bytes4 pastIn fieldsOf headOf frameOf lengthBad versionBad countBad partBad fieldsBad entryBad entriesBad outputShort readFields readEntries writeSize same isHead heads previous ready missingEntries lacksPrevious missing reckoning falseEntries falseStamp newOf fieldsOfMark frameOfMark sizeOfMark markIn full newMark markAnswerOf markOf executingBy admitBy unmade sameFields judgeBy readMark receiveOf leaveOut listsFull pastListed isLast frameSize newMade makingBy handOver
 shown = record { listed = tt; every = tt; fades = tt; until-needed = tt; every-needed = tt; executed-needed = tt }
 
 -- That point is one of those of which the claim speaks.

@@ -2,26 +2,26 @@
 use Prim.Native.Nat.{_≤_, suc, ℕ}
 use lib.Dec.{T, T-not, not-T}
 use lib.ListN.{length}
-use mathlib.Core.Bool.{Bool, false, not, true}
-use mathlib.Core.List.{List, [], _∷_, map}
+use mathlib.Core.Bool.{false, not, true}
+use mathlib.Core.List.{_∷_, List, [], map}
 use mathlib.Core.Option.{Option, Option·map, none, some}
-use mathlib.Core.Path.{_∙_, _≡_, ap, refl, subst, sym}
+use mathlib.Core.Path.{_∙_, _≡_, ap, refl, sym}
 use Rattle.frame.specs.declared.Past.the-variants.{Unsaid}
 use Rattle.frame.specs.Answer.{Answer, gives, refused}
 use Rattle.frame.specs.Mark.{MarkId, isDesk}
 use Rattle.causality.specs.Calls.{frameOfMark, mark, newMark, readMark, receive, receiveMark, toFirstBytes, toFirstMark, toFirstSize, toSecondBytes, toSecondMark, toSecondSize}
+use Rattle.causality.specs.Kinds.{receiveOf}
 use Rattle.causality.specs.Marks.{All, find, has, same, tally}
 use Rattle.causality.specs.State.{Mark, State, ids, markId, withPast}
 use Rattle.causality.proofs.Conversions.{first-front, first-read, second-front, second-gives, second-read}
 use Rattle.causality.proofs.Fit.{Fit, fit-back, fit-front, fit-read}
-use Rattle.causality.proofs.Kept.{kept}
-use Rattle.causality.proofs.Lists.{Picked, all-ids, all-map, find-all, has-self, keys}
+use Rattle.causality.proofs.Lists.{all-names, all-map, has-self}
 use Rattle.causality.proofs.Logic.{T→eq, nT→eq, or-inr, same-refl, same→eq}
 use Rattle.history.specs.Plain.{History, MadeMark, Unmade, handOver, handOverAt, listsAt, madeId, madeIds, making, newMade, ofMark, ofReceive, pastOf, plain, plainStep, recorded}
 use Rattle.history.specs.Run.{Run, Step, Written, atDesk, converted, fed, frameAt, handing, marking, run, runStep, toFirst, toSecond, withoutMissing, written, writtenId}
 use Rattle.history.proofs.Calls.{MarkCase, declined, granted, made-ids, mark-cases}
 use Rattle.history.proofs.MarkRun.{MarkRun, convert, frame-map, heldAt, markStateAt, markStep, picked, runMarks}
-use Rattle.history.proofs.Simulation.{Inv, Recorded, Registered, Within, differs, first-ok, handing-ok, held-id, marking-ok, new-id, newAt, second-ok, start}
+use Rattle.history.proofs.Simulation.{Inv, Registered, Within, differs, first-ok, handing-ok, held-id, marking-ok, new-id, newAt, second-ok, start}
 
 abbrev pub AtDesks : ℕ → List Step → Type 0
 AtDesks N s = All (λ t. T (atDesk N t)) s
@@ -89,17 +89,17 @@ simulation N sd past register (toFirst i k lent ∷ s) at hp hr = first-ok N sd 
 module _ {A : Type 0} (nameOf : A → MarkId) where
   abbrev Distinct : List A → Type 0
   Distinct [] = Unit {0}
-  Distinct (x ∷ xs) = T (not (has (nameOf x) (keys nameOf xs))) × Distinct xs
+  Distinct (x ∷ xs) = T (not (has (nameOf x) (map nameOf xs))) × Distinct xs
 
-  recorded-distinct : {B : Type 0} (a : Answer B) (x : A) (xs : List A) → T (not (has (nameOf x) (keys nameOf xs))) → Distinct xs → Distinct (recorded a x xs)
+  recorded-distinct : {B : Type 0} (a : Answer B) (x : A) (xs : List A) → T (not (has (nameOf x) (map nameOf xs))) → Distinct xs → Distinct (recorded a x xs)
   recorded-distinct (gives n) x xs t u = (t, u)
   recorded-distinct (refused c) x xs t u = u
 
-  others : (i : MarkId) (xs : List A) → T (not (has i (keys nameOf xs))) → All (λ x. same (nameOf x) i ≡ false) xs
+  others : (i : MarkId) (xs : List A) → T (not (has i (map nameOf xs))) → All (λ x. same (nameOf x) i ≡ false) xs
   others i [] n = tt
   others i (x ∷ xs) n = (
-    nT→eq (same (nameOf x) i) (not-T (same (nameOf x) i) (λ t. T-not (has i (nameOf x ∷ keys nameOf xs)) n (rw (same→eq (nameOf x) i t) (has-self i (keys nameOf xs))))),
-    others i xs (not-T (has i (keys nameOf xs)) (λ t. T-not (has i (nameOf x ∷ keys nameOf xs)) n (or-inr (same i (nameOf x)) (has i (keys nameOf xs)) t))),
+    nT→eq (same (nameOf x) i) (not-T (same (nameOf x) i) (λ t. T-not (has i (nameOf x ∷ map nameOf xs)) n (rw (same→eq (nameOf x) i t) (has-self i (map nameOf xs))))),
+    others i xs (not-T (has i (map nameOf xs)) (λ t. T-not (has i (nameOf x ∷ map nameOf xs)) n (or-inr (same i (nameOf x)) (has i (map nameOf xs)) t))),
   )
 
 pub all-both : {A : Type 0} {P Q R : A → Type 0} → ((x : A) → P x → Q x → R x) → (xs : List A) → All P xs → All Q xs → All R xs
@@ -119,14 +119,6 @@ register-fits (y ∷ ys) u = (
   rw (T→eq (same (y .id) (y .id)) (same-refl (y .id)), find) refl,
   all-both {P = λ x. same (x .id) (y .id) ≡ false} {Q = λ x. find markId (x .id) ys ≡ some x} (λ x e q. rw (e, find) q) ys (others markId (y .id) ys (u .0)) (register-fits ys (u .1)),
 )
-
-keys-ids : (ms : List Mark) → keys markId ms ≡ ids ms
-keys-ids [] = refl
-keys-ids (m ∷ ms) = ap (λ (l : List MarkId). m .id ∷ l) (keys-ids ms)
-
-keys-made : (ms : List MadeMark) → keys madeId ms ≡ madeIds ms
-keys-made [] = refl
-keys-made (m ∷ ms) = ap (λ (l : List MarkId). m .id ∷ l) (keys-made ms)
 
 module _ (N : ℕ) (some-desk : 1 ≤ N) where
   -- The past of a made mark, and the mark, at the end of a sequence.
@@ -160,7 +152,7 @@ module _ (N : ℕ) (some-desk : 1 ≤ N) where
       go : Unique s → Unique (marking d b lent ∷ s)
       go u = record {
         mades = recorded-distinct madeId ((making d (listsAt h d) b (length lent)) .answer) (newMade d (listsAt h d) b) (h .made) new-absent (u .mades);
-        marks = recorded-distinct markId ((mark N (markStateAt N w d) b lent) .answer) (newMark (markStateAt N w d) b) (w .made) (rw keys-ids absent) (u .marks);
+        marks = recorded-distinct markId ((mark N (markStateAt N w d) b lent) .answer) (newMark (markStateAt N w d) b) (w .made) absent (u .marks);
       }
         where
           w : MarkRun
@@ -180,10 +172,10 @@ module _ (N : ℕ) (some-desk : 1 ≤ N) where
 
           absent : T (not (has i (ids (w .made))))
           absent = not-T (has i (ids (w .made))) (λ t. T-not (same i i)
-              (differs N some-desk (pastAt s) (registerAt s) w h inv d td b i (all-ids (Within N w) (w .made) (all-map (λ m x. x .k .within) (w .made) (inv .made)) i t)) (same-refl i))
+              (differs N some-desk (pastAt s) (registerAt s) w h inv d td b i (all-names markId (Within N w) (w .made) (all-map (λ m x. x .k .within) (w .made) (inv .made)) i t)) (same-refl i))
 
-          new-absent : T (not (has ((newMade d (listsAt h d) b) .id) (keys madeId (h .made))))
-          new-absent = rw (new-id N some-desk (pastAt s) (registerAt s) w h inv d td b, keys-made (h .made) ∙ ap madeIds (inv .hist) ∙ made-ids (pastAt s) (w .made)) absent
+          new-absent : T (not (has ((newMade d (listsAt h d) b) .id) (madeIds (h .made))))
+          new-absent = rw (new-id N some-desk (pastAt s) (registerAt s) w h inv d td b, ap madeIds (inv .hist) ∙ made-ids (pastAt s) (w .made)) absent
 
   pub inv-of : (s : List Step) → AtDesks N s → InvAt s
   inv-of s at = inv-from s at (unique s at)
@@ -201,7 +193,7 @@ module _ (N : ℕ) (some-desk : 1 ≤ N) where
 
   -- Receive of a fit mark's frame.
   receive-frame : (st : State) (m : Mark) → Fit N m → receive N st (frameOfMark m) ≡ receiveMark st m
-  unfolding receive readMark
+  unfolding receiveOf readMark
   receive-frame st m f = rw (fit-read N m f, fit-back N m f)
 
   one-step : (s : List Step) → AtDesks N s → (t : Step) → T (atDesk N t) → runStep N (onFrames (runMarks N s)) t ≡ onFrames (markStep N (runMarks N s) t)

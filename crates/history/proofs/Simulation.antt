@@ -15,19 +15,21 @@ use Rattle.frame.specs.Answer.{Answer, gives, refused}
 use Rattle.frame.specs.Frame.{overIf, pastBad}
 use Rattle.frame.specs.Mark.{MarkId, isDesk}
 use Rattle.causality.specs.Answers.{Numbered, Reception}
-use Rattle.causality.specs.Calls.{Created, Marked, begun, empty, execute, frameOfMark, mark, new, newMark, receiveMark, sameFields, toFirstMark, toSecondMark, unmade}
+use Rattle.causality.specs.Calls.{Created, Marked, begun, empty, execute, frameOfMark, mark, newMark, receiveMark, sameFields, toFirstMark, toSecondMark, unmade}
+use Rattle.causality.specs.Kinds.{newOf}
 use Rattle.causality.specs.Marks.{All, any, find, has, keep, rising, same, tally}
 use Rattle.causality.specs.State.{Mark, State, heads, ids, isHead, markId, sameCount, withPast}
 use Rattle.causality.proofs.Conversions.{second-gives}
 use Rattle.causality.proofs.Fit.{Fit, fields-same}
 use Rattle.causality.proofs.Kept.{Kept, fit-with, kept, mark-kept, receive-mark-kept}
-use Rattle.causality.proofs.Lists.{Picked, all-ids, all-map, any-cong, any-find, find-all, find-has, has-self, ids-length, isSome, keep-cong}
+use Rattle.causality.proofs.Lists.{Picked, all-names, all-map, any-cong, any-find, find-all, find-has, ids-length, isSome, keep-cong}
 use Rattle.causality.proofs.Logic.{and-fst, and-snd, bool-ext, nT→eq, or-cases, or-inr, same-refl, same→eq}
 use Rattle.causality.proofs.Past.{Good, Stands, counted, new-stands, precedes-past, tally-le, tally-same}
 use Rattle.causality.proofs.Reckoning.{Once, counted-once, good-with}
-use Rattle.history.specs.Plain.{DeskLists, History, MadeMark, Outcome, StepAnswer, Unmade, handOver, handOverAt, listsAt, look, madeId, making, makingAt, newMade, ofMark, ofReceive, plain, plainStep, recorded}
+use Rattle.causality.proofs.Images.{find-image}
+use Rattle.history.specs.Plain.{DeskLists, History, Outcome, StepAnswer, Unmade, handOver, handOverAt, listsAt, look, madeId, making, makingAt, newMade, ofMark, ofReceive, plain, plainStep, plainStepBy, recorded}
 use Rattle.history.specs.Run.{frameAt, handing, marking, toFirst, toSecond, withoutMissing}
-use Rattle.history.proofs.Calls.{Closed, Consistent, MarkCase, Matches, Told, Unlisted, declined, granted, listsOf, made-ids, madeOf, mark-cases, new-made, receive-ok, truth}
+use Rattle.history.proofs.Calls.{Closed, Consistent, MarkCase, Matches, Told, Unlisted, declined, granted, listsOf, made-ids, made-named, madeOf, mark-cases, new-made, receive-ok, truth}
 use Rattle.history.proofs.MarkRun.{MarkRun, convert, frame-has, fresh, heldAt, look-both, look-hit, look-new, markStateAt, markStep, picked, startMarks}
 
 -- A mark's number is one that its own desk has reached.
@@ -110,7 +112,7 @@ module _ (N : ℕ) (some-desk : 1 ≤ N) (past : MarkId → List MarkId) (regist
     lists : record { listed = []; waiting = [] } ≡ listsOf past st
 
   fresh-is : (d : ℕ) → Fresh d (fresh N d)
-  unfolding new
+  unfolding newOf
   fresh-is d = go (isDesk N d) refl
     where
       go : (b : Bool) → isDesk N d ≡ b → Fresh d ((elim b as (λ x. Created) [ true ↦ record { state = empty d; answer = gives d } | false ↦ record { state = empty 1; answer = refused 1 } ]) .state)
@@ -129,16 +131,6 @@ module _ (N : ℕ) (some-desk : 1 ≤ N) (past : MarkId → List MarkId) (regist
     hist = refl;
     answers = refl;
   }
-
-  find-map : (i : MarkId) (ms : List Mark) → find madeId i (map (madeOf past) ms) ≡ Option·map (madeOf past) (find markId i ms)
-  unfolding madeOf
-  find-map i [] = refl
-  find-map i (m ∷ ms) = go (same i (m .id)) (find-map i ms)
-    where
-      go : (b : Bool) → find madeId i (map (madeOf past) ms) ≡ Option·map (madeOf past) (find markId i ms)
-          → elim b [ true ↦ some (madeOf past m) | false ↦ find madeId i (map (madeOf past) ms) ] ≡ Option·map (madeOf past) (elim b [ true ↦ some m | false ↦ find markId i ms ])
-      go true ih = refl
-      go false ih = ih
 
   -- ONE STEP AT DESK d, which gives the state x
 
@@ -196,11 +188,11 @@ module _ (N : ℕ) (some-desk : 1 ≤ N) (past : MarkId → List MarkId) (regist
         subst (λ (j : MarkId). T (has j (ids (w .frames)))) (same→eq i (f .id) (y .1)) (rw (← frame-has i k (w .frames), e) tt)
 
     pub find-made : (i : MarkId) → find madeId i (h .made) ≡ Option·map (madeOf past) (find markId i (w .made))
-    find-made i = ap (find madeId i) (inv .hist) ∙ find-map i (w .made)
+    find-made i = ap (find madeId i) (inv .hist) ∙ find-image markId madeId (madeOf past) (made-named past) i (w .made)
 
     -- There is a frame of each mark made, and of no other.
     both-found : (i : MarkId) (k : ℕ) → isSome (find markId i (w .made)) ≡ isSome (frameAt markId i k (w .frames))
-    both-found i k = sym (find-has i (w .made)) ∙ sym (inv .named i) ∙ sym (frame-has i k (w .frames))
+    both-found i k = sym (find-has markId i (w .made)) ∙ sym (inv .named i) ∙ sym (frame-has i k (w .frames))
 
     made-none : (i : MarkId) (k : ℕ) → frameAt markId i k (w .frames) ≡ none → find madeId i (h .made) ≡ none
     made-none i k e = find-made i ∙ ap (Option·map (madeOf past)) (go (find markId i (w .made)) (both-found i k ∙ ap isSome e))
@@ -220,9 +212,9 @@ module _ (N : ℕ) (some-desk : 1 ≤ N) (past : MarkId → List MarkId) (regist
         y = picked (Recorded w) markId i k (w .frames) (inv .frames) f e
 
         go : (o : Option Mark) → find markId i (w .made) ≡ o → find madeId i (h .made) ≡ some (madeOf past f)
-        go none q = let n : isSome none ≡ isSome (some f) = ap isSome (sym q) ∙ both-found i k ∙ ap isSome e in let z : _≡_ {A = ℕ} 0 1 = cc in let y : ⊥ = omega arith in absurd y
+        go none q = let n : isSome {A = Mark} none ≡ isSome (some f) = ap isSome (sym q) ∙ both-found i k ∙ ap isSome e in let z : _≡_ {A = ℕ} 0 1 = cc in let y : ⊥ = omega arith in absurd y
         go (some m) q =
-            let x = subst (Picked (Recorded w) (λ v. same i (v .id))) q (find-all (Recorded w) i (w .made) (inv .made)) in
+            let x = subst (Picked (Recorded w) (λ v. same i (v .id))) q (find-all markId (Recorded w) i (w .made) (inv .made)) in
             find-made i ∙ ap (Option·map (madeOf past)) q ∙ ap some (made-same m f (x .0) (y .0) (sym (same→eq i (m .id) (x .1)) ∙ same→eq i (f .id) (y .1)))
 
     -- A frame more of a mark that has one.
@@ -275,7 +267,7 @@ module _ (N : ℕ) (some-desk : 1 ≤ N) (past : MarkId → List MarkId) (regist
         idle = record { states = w .states; made = w .made; frames = w .frames; answers = Unmade ∷ w .answers; conversions = w .conversions }
 
         go : (o : Option Mark) → frameAt markId i k (w .frames) ≡ o → Inv (markStep N w (handing d i k)) (plainStep h (handOverAt d i))
-        go none e = rw (e, markStep) (rw (made-none w h inv i k e, plainStep)
+        go none e = rw (e, markStep) (rw (made-none w h inv i k e, plainStepBy)
             (record {
               own = inv .own;
               kept = inv .kept;
@@ -296,7 +288,7 @@ module _ (N : ℕ) (some-desk : 1 ≤ N) (past : MarkId → List MarkId) (regist
             let a : StepAnswer = ofReceive (withoutMissing ((receiveMark x m) .answer)) in
             let v : MarkRun = after w h inv d y (w .made) (w .frames) a in
             let gr : (j : MarkId) → Within N w j → Within N v j = grow w h inv d y (w .made) (w .frames) a (r .grows) in
-            rw (e, markStep) (rw (made-some w h inv i k m e, plainStep)
+            rw (e, markStep) (rw (made-some w h inv i k m e, plainStepBy)
             (put w h inv d y (w .made) (w .frames) a (λ t. r .own ∙ inv .own d t) (receive-mark-kept N some-desk x m (mm .fit) (inv .kept d)) (r .grows)
             (consistent-mono (Registered w) (Registered v) (registered-mono w v gr) (y .executed) (y .waiting) (r .ok))
             (all-map (recorded-mono w v gr) (w .made) (inv .made)) (all-map (recorded-mono w v gr) (w .frames) (inv .frames)) (inv .named)
@@ -309,8 +301,8 @@ module _ (N : ℕ) (some-desk : 1 ≤ N) (past : MarkId → List MarkId) (regist
     held-recorded : (f m : Mark) → Recorded w f → find markId (f .id) ((markStateAt N w d) .executed) ≡ some m → Recorded w m
     held-recorded f m x q =
         let l = (markStateAt N w d) .executed in
-        let k = subst (Picked (Registered w) (λ v. same (f .id) (v .id))) q (find-all (Registered w) (f .id) l (inv .ok d .ks)) in
-        let g = (subst (Picked (Fit N) (λ v. same (f .id) (v .id))) q (find-all (Fit N) (f .id) l (inv .kept d .executed))) .0 in
+        let k = subst (Picked (Registered w) (λ v. same (f .id) (v .id))) q (find-all markId (Registered w) (f .id) l (inv .ok d .ks)) in
+        let g = (subst (Picked (Fit N) (λ v. same (f .id) (v .id))) q (find-all markId (Fit N) (f .id) l (inv .kept d .executed))) .0 in
         let i : m .id ≡ f .id = sym (same→eq (f .id) (m .id) (k .1)) in
         let z : withPast f (m .past) ≡ m = ap (λ (v : Mark). withPast v (m .past)) (sym (truths w m f (k .0) (x .k) i)) in
         subst (Recorded w) z (recorded-with w f (m .past) x (subst (λ (j : MarkId). T (sameCount (m .past) (Said (length (past j))))) i (k .0 .told .honest)) (g .past))
@@ -318,7 +310,7 @@ module _ (N : ℕ) (some-desk : 1 ≤ N) (past : MarkId → List MarkId) (regist
     pub held-id : (f m : Mark) → find markId (f .id) ((markStateAt N w d) .executed) ≡ some m → f .id ≡ m .id
     held-id f m q =
         let l = (markStateAt N w d) .executed in
-        same→eq (f .id) (m .id) ((subst (Picked (Registered w) (λ v. same (f .id) (v .id))) q (find-all (Registered w) (f .id) l (inv .ok d .ks))) .1)
+        same→eq (f .id) (m .id) ((subst (Picked (Registered w) (λ v. same (f .id) (v .id))) q (find-all markId (Registered w) (f .id) l (inv .ok d .ks))) .1)
 
     pub second-ok : (i : MarkId) (k : ℕ) (lent : List ℕ) → Inv (markStep N w (toSecond d i k lent)) h
     second-ok i k lent = go (frameAt markId i k (w .frames)) refl
@@ -425,7 +417,7 @@ module _ (N : ℕ) (some-desk : 1 ≤ N) (past : MarkId → List MarkId) (regist
           fit = fit;
           stamp = last-ones;
           k = new-registered;
-          ks = λ b t. up b (all-ids (Within N w) ((markStateAt N w d) .executed) (all-map (λ m x. x .within) ((markStateAt N w d) .executed) (inv .ok d .ks)) b (rw ep at t));
+          ks = λ b t. up b (all-names markId (Within N w) ((markStateAt N w d) .executed) (all-map (λ m x. x .within) ((markStateAt N w d) .executed) (inv .ok d .ks)) b (rw ep at t));
         }
 
     pub marking-ok : (box : MarkBox) (lent : List ℕ)

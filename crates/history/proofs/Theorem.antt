@@ -11,22 +11,23 @@ use native.Mathlib.Omega.{arith}
 use Rattle.frame.specs.declared.MarkBox.{MarkBox}
 use Rattle.frame.specs.declared.Past.{Past}
 use Rattle.frame.specs.declared.Past.the-variants.{Said, Unsaid}
-use Rattle.frame.specs.Answer.{Answer, gives, refuseIf, refused}
+use Rattle.frame.specs.Answer.{gives, refuseIf, refused}
 use Rattle.frame.specs.Mark.{MarkId, boxRule, desks, isDesk}
 use Rattle.causality.specs.Answers.{After, Before, Concurrent, Same}
 use Rattle.causality.specs.Calls.{fieldsOfMark, isExecuted, isSaid, receiveMark, relate, toFirstMark, toSecondMark}
+use Rattle.causality.specs.Kinds.{relateBy}
 use Rattle.causality.specs.Marks.{All, any, find, has, same, waitingPlaces}
 use Rattle.causality.specs.State.{Mark, State, ids, markId, ready, reckoning, sameCount, withPast}
 use Rattle.causality.proofs.Conversions.{first-size, second-none, second-size}
 use Rattle.causality.proofs.Fit.{Fit, desk-facts, fit-entries, fit-read, markSize}
-use Rattle.causality.proofs.Kept.{fit-with, kept}
+use Rattle.causality.proofs.Kept.{fit-with}
 use Rattle.causality.proofs.Reach.{sound-reckoned}
 use Rattle.causality.proofs.Lists.{Picked, all-append, all-intro, all-map, find-all, has-self}
 use Rattle.causality.proofs.Logic.{T→eq, and-fst, and-snd, or-inr, same→eq, split}
 use Rattle.causality.proofs.Past.{Standing, precedes-past, ready-past}
 use Rattle.history.specs.Demand3.{Agree, AtDesk, Behind, Boxed, Consequences, Consequent, Demand3, ReadsBack, boxed, converts, madeBoxed, occurs}
-use Rattle.history.specs.Plain.{DeskLists, History, MadeMark, PlainStep, Unmade, frameSize, handOver, handOverAt, lastOfPast, leaveOut, listsAt, listsFull, madeId, madeIds, making, makingAt, ofMark, ofReceive, pastListed, pastOf, plain, relation}
-use Rattle.history.specs.Run.{Run, Step, Written, atDesk, fed, frameAt, handing, marking, run, runStep, toFirst, toSecond, withoutMissing}
+use Rattle.history.specs.Plain.{DeskLists, History, MadeMark, PlainStep, Unmade, frameSize, handOver, handOverAt, lastOfPast, leaveOut, listsAt, listsFull, madeId, madeIds, making, makingAt, makingBy, ofMark, ofReceive, pastListed, pastOf, plain, relation}
+use Rattle.history.specs.Run.{Run, Step, Written, fed, frameAt, handing, marking, run, runStep, toFirst, toSecond, withoutMissing}
 use Rattle.history.proofs.Calls.{Unlisted, listsOf, made-ids, madeOf, truth}
 use Rattle.history.proofs.MarkRun.{MarkRun, convert, heldAt, markStateAt, picked, runMarks}
 use Rattle.history.proofs.Sequence.{AtDesks, InvAt, all-both, framed, inv-of, onFrames, pastAt, plainOf, registerAt, same-run}
@@ -39,7 +40,7 @@ boxed-same past (m ∷ ms) = ap (λ (l : List Boxed). boxed m ∷ l) (boxed-same
 
 relate-same : (made : List MadeMark) (x : State) (ls : DeskLists) → ls ≡ listsOf (pastOf made) x → Standing (pastOf made) (x .executed)
     → (a b : MarkId) → relate x a b ≡ relation made ls a b
-unfolding relate relation
+unfolding relateBy relation
 relate-same made x ls e h a b = go (isExecuted x a && isExecuted x b) refl ∙ sym (ap (λ (q : DeskLists). relation made q a b) e)
   where
     nm : madeIds (map (madeOf (pastOf made)) (x .executed)) ≡ ids (x .executed)
@@ -60,14 +61,14 @@ relate-same made x ls e h a b = go (isExecuted x a && isExecuted x b) refl ∙ s
 
 -- The plain machine leaves a step out only for 5, 9, 10 and 13, and drops nothing.
 making-occurs : (d : ℕ) (ls : DeskLists) (b : MarkBox) (lent : ℕ) → T (occurs (ofMark ((making d ls b lent) .answer)))
-unfolding making leaveOut
+unfolding makingBy leaveOut
 making-occurs d ls b lent = go (boxRule b) (listsFull ls) (ltb lent (frameSize ls)) refl refl refl
   where
     go : (x y z : Bool) → boxRule b ≡ x → listsFull ls ≡ y → ltb lent (frameSize ls) ≡ z → T (occurs (ofMark ((making d ls b lent) .answer)))
-    go false y z ex ey ez = rw (ex, making) tt
-    go true true z ex ey ez = rw (ex, making) (rw ey tt)
-    go true false true ex ey ez = rw (ex, making) (rw ey (rw ez tt))
-    go true false false ex ey ez = rw (ex, making) (rw ey (rw ez tt))
+    go false y z ex ey ez = rw (ex, makingBy) tt
+    go true true z ex ey ez = rw (ex, makingBy) (rw ey tt)
+    go true false true ex ey ez = rw (ex, makingBy) (rw ey (rw ez tt))
+    go true false false ex ey ez = rw (ex, makingBy) (rw ey (rw ez tt))
 
 handing-occurs : (ls : DeskLists) (x : MadeMark) → T (occurs (ofReceive ((handOver ls x) .answer)))
 unfolding handOver leaveOut
@@ -121,8 +122,8 @@ module _ (N : ℕ) (some-desk : 1 ≤ N) where
       go : (o : Option Mark) → find markId (f .id) (st .executed) ≡ o → T (converts (toSecondMark N st f lent))
       go none q = rw (second-none N st f lent q) (conv-none (isSaid (f .past)))
       go (some h) q =
-          let k = subst (Picked K (λ v. same (f .id) (v .id))) q (find-all K (f .id) (st .executed) (inv .ok d .ks)) in
-          let g = (subst (Picked (Fit N) (λ v. same (f .id) (v .id))) q (find-all (Fit N) (f .id) (st .executed) (inv .kept d .executed))) .0 in
+          let k = subst (Picked K (λ v. same (f .id) (v .id))) q (find-all markId K (f .id) (st .executed) (inv .ok d .ks)) in
+          let g = (subst (Picked (Fit N) (λ v. same (f .id) (v .id))) q (find-all markId (Fit N) (f .id) (st .executed) (inv .kept d .executed))) .0 in
           let e = one N some-desk (pastAt N some-desk s) (registerAt N some-desk s) (runMarks N s) h f (k .0) x (sym (same→eq (f .id) (h .id) (k .1))) in
           rw (second-size N st f h lent q e g) (conv-held (isSaid (f .past)) (ltb lent (markSize N h)) (markSize N h))
 
@@ -169,7 +170,7 @@ module _ (N : ℕ) (some-desk : 1 ≤ N) (s : List Step) (at : AtDesks N s) wher
   recorded-of : (m : Mark) → Registered N some-desk (pastAt N some-desk s) (registerAt N some-desk s) (runMarks N s) m
       → Recorded N some-desk (pastAt N some-desk s) (registerAt N some-desk s) (runMarks N s) (truth (pastAt N some-desk s) m)
   recorded-of m k = (subst (Picked (Recorded N some-desk (pastAt N some-desk s) (registerAt N some-desk s) (runMarks N s)) (λ v. same (m .id) (v .id))) (k .registered)
-      (find-all (Recorded N some-desk (pastAt N some-desk s) (registerAt N some-desk s) (runMarks N s)) (m .id) ((runMarks N s) .made) (inv .made))) .0
+      (find-all markId (Recorded N some-desk (pastAt N some-desk s) (registerAt N some-desk s) (runMarks N s)) (m .id) ((runMarks N s) .made) (inv .made))) .0
 
   -- Of two that say the same number, both say it.
   says : (m : Mark) (r n : ℕ) → m .past ≡ Said r → T (sameCount (m .past) (Said n)) → m .past ≡ Said n

@@ -16,9 +16,9 @@ use Rattle.frame.specs.Frame.{entryBytes, overIf, writeBytes, writeSize}
 use Rattle.frame.specs.Mark.{MarkId, desks}
 use Rattle.causality.specs.Calls.{fieldsOfMark, frameOfMark, newMark, sizeOfMark}
 use Rattle.causality.specs.Marks.{has, places, tally}
-use Rattle.causality.specs.State.{Mark, heads, ids}
+use Rattle.causality.specs.State.{Mark, heads, ids, markId}
 use Rattle.causality.proofs.Fit.{Range}
-use Rattle.causality.proofs.Lists.{all-ids, all-map, tally-length}
+use Rattle.causality.proofs.Lists.{all-names, all-map, tally-length}
 use Rattle.causality.proofs.Numbers.{heads-strict}
 use Rattle.causality.proofs.Past.{Standing, heads-has}
 use Rattle.causality.proofs.Reach.{Sound, local, local-hist, mark-sound}
@@ -65,7 +65,7 @@ module _ (own : ℕ) (a : Arrays) (q : Waiting) (k : KeptIn own a q) where
 
       range : (e : MarkId) → T (has e (heads l)) → (1 ≤ e .desk) × (e .desk ≤ width) × (1 ≤ e .number)
       range e t =
-          let r = all-ids (Range desks) l (all-map (λ m f. f .range) l (kept-fit own a q k)) e ((heads-has (local l) l e t) .0) in
+          let r = all-names markId (Range desks) l (all-map (λ m f. f .range) l (kept-fit own a q k)) e ((heads-has (local l) l e t) .0) in
           (r .low, r .high, r .first)
 
   -- No count is above the number of places.

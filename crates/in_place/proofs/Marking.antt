@@ -18,6 +18,7 @@ use Rattle.frame.specs.Frame.{overIf}
 use Rattle.frame.specs.Mark.{boxRule, desks}
 use Rattle.causality.specs.Answers.{Numbered}
 use Rattle.causality.specs.Calls.{FromCalls, Marked, execute, frameOfMark, full, mark, markAnswer, marked, newMark, numbered, sizeOfMark, stateIf}
+use Rattle.causality.specs.Kinds.{markAnswerOf, markOf}
 use Rattle.causality.specs.Marks.{places}
 use Rattle.causality.specs.Meaning.{numbering}
 use Rattle.causality.specs.State.{Mark, State}
@@ -32,12 +33,12 @@ use Rattle.in_place.specs.Lent.{MarkedIn}
 module _ (st : State) (b : MarkBox) (out : List ℕ) where
   answer-by : (x y : Bool) (a : Answer ℕ) → boxRule b ≡ x → full st ≡ y → sizeOfMark desks (newMark st b) (length out) ≡ a
       → markAnswer desks st b (length out) ≡ refuseIf (not x) 5 (refuseIf y 9 (numbered (newMark st b .id .number) a))
-  unfolding markAnswer
+  unfolding markAnswerOf
   answer-by x y a ex ey ea = λ i. refuseIf (not (ex i)) 5 (refuseIf (ey i) 9 (numbered (newMark st b .id .number) (ea i)))
 
   mark-by : (a : Answer Numbered) → markAnswer desks st b (length out) ≡ a
       → mark desks st b out ≡ record { state = stateIf a (execute (newMark st b) st) st; answer = a; bytes = overIf a (frameOfMark (newMark st b)) out }
-  unfolding mark
+  unfolding markOf
   mark-by a e = λ i. record { state = stateIf (e i) (execute (newMark st b) st) st; answer = e i; bytes = overIf (e i) (frameOfMark (newMark st b)) out }
 
 -- A desk is full by its counts.

@@ -13,6 +13,7 @@ use Rattle.frame.specs.Frame.{entriesOf, fieldsOf, pastBad, readEntries, readFi
 use Rattle.frame.specs.Mark.{desks}
 use Rattle.frame.proofs.RoundTrip.{accepted}
 use Rattle.causality.specs.Calls.{FromCalls, Received, markIn, readMark, receive, receiveMark, received}
+use Rattle.causality.specs.Kinds.{receiveOf}
 use Rattle.causality.specs.Meaning.{reception}
 use Rattle.causality.proofs.Fit.{frame-fit}
 use Rattle.causality.specs.inner.Passes.{rowOf}
@@ -25,16 +26,16 @@ use Rattle.in_place.specs.Lent.{ReceivedIn}
 
 module _ (own : ℕ) (a : Arrays) (q : Waiting) (k : KeptIn own a q) (s : List ℕ) where
   pub receipt-refused : (c : ℕ) (r : Receipt) → refused c ≡ readFields desks s → reception r ≡ refused c → ReceivedIn own a q a q s r
-  unfolding receive readMark
-  receipt-refused c r e z = record { state = rw (sym e, receive) refl; answer = z ∙ rw (sym e, receive) refl; kept = k }
+  unfolding receiveOf readMark
+  receipt-refused c r e z = record { state = rw (sym e, receiveOf) refl; answer = z ∙ rw (sym e, receiveOf) refl; kept = k }
 
   -- What comes of the mark comes of its frame.
   pub receipt-mark : (f : Fields) → gives f ≡ readFields desks s → (h : Held) → heldMark h ≡ markIn desks s → (b : Arrays) (w : Waiting) (r : Receipt) → Arrived own a q b w h r → ReceivedIn own a q b w s r
-  unfolding receive readMark
+  unfolding receiveOf readMark
   receipt-mark f e h m b w r p = record { state = state; answer = p .reply ∙ ap (λ (x : Received). x .answer) same; kept = record { from = subst (FromCalls desks) (sym state) (received (k .from) s); ordered = p .ordered; queued = p .queued } }
     where
       same : receiveMark (stateIn own a q) (heldMark h) ≡ receive desks (stateIn own a q) s
-      same = ap (receiveMark (stateIn own a q)) m ∙ rw (sym e, receive) refl
+      same = ap (receiveMark (stateIn own a q)) m ∙ rw (sym e, receiveOf) refl
 
       state : stateIn own b w ≡ (receive desks (stateIn own a q) s) .state
       state = p .state ∙ ap (λ (x : Received). x .state) same

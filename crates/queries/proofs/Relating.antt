@@ -9,6 +9,7 @@ use Rattle.frame.specs.Answer.{Answer, gives, refuseIf, refused}
 use Rattle.frame.specs.Mark.{MarkId}
 use Rattle.causality.specs.Answers.{After, Before, Concurrent, Relation, Same}
 use Rattle.causality.specs.Calls.{relate}
+use Rattle.causality.specs.Kinds.{relateBy}
 use Rattle.causality.specs.Marks.{find, has, places, same}
 use Rattle.causality.specs.State.{Mark, State, ids, markId, precedes}
 use Rattle.causality.proofs.Logic.{T→eq, nT→eq, same-refl, same→eq}
@@ -24,7 +25,7 @@ use Rattle.queries.specs.Steps.{PrecedesAt}
 relate-as : (st : State) (a b : MarkId) (x y s u v : Bool) → has a (ids (st .executed)) ≡ x → has b (ids (st .executed)) ≡ y → same a b ≡ s
     → precedes (st .executed) a b ≡ u → precedes (st .executed) b a ≡ v
     → relate st a b ≡ refuseIf (not (x && y)) 12 (gives (elim s [ true ↦ Same | false ↦ elim u [ true ↦ Before | false ↦ elim v [ true ↦ After | false ↦ Concurrent ] ] ]))
-unfolding relate
+unfolding relateBy
 relate-as st a b x y s u v ex ey es eu ev =
     λ i. refuseIf (not (ex i && ey i)) 12 (gives (elim (es i) [ true ↦ Same | false ↦ elim (eu i) [ true ↦ Before | false ↦ elim (ev i) [ true ↦ After | false ↦ Concurrent ] ] ]))
 

@@ -97,8 +97,8 @@ module _ (n : ℕ) (ds ns : List ℕ) (bs : ℕ → Carried) (ss : List ℕ) whe
   unfolding placeAt
   found-some count p i h e =
       let f : find markId i (view n count ds ns bs ss) ≡ some (markAt n ds ns bs ss p) = sym (rw (lt-ltb p count h, placeAt) at e) in
-      let k : T (same i ((markAt n ds ns bs ss p) .id)) = (subst (Picked (λ m. Unit {0}) (λ w. same i (w .id))) f (find-all (λ m. Unit {0}) i (view n count ds ns bs ss) (all-unit (view n count ds ns bs ss)))) .1 in
-      (f, sym (same→eq i ((markAt n ds ns bs ss p) .id) k), rw (find-has i (view n count ds ns bs ss), f) tt)
+      let k : T (same i ((markAt n ds ns bs ss p) .id)) = (subst (Picked (λ m. Unit {0}) (λ w. same i (w .id))) f (find-all markId (λ m. Unit {0}) i (view n count ds ns bs ss) (all-unit (view n count ds ns bs ss)))) .1 in
+      (f, sym (same→eq i ((markAt n ds ns bs ss p) .id) k), rw (find-has markId i (view n count ds ns bs ss), f) tt)
     where
       all-unit : (l : List Mark) → All (λ m. Unit {0}) l
       all-unit [] = tt
@@ -109,4 +109,4 @@ module _ (n : ℕ) (ds ns : List ℕ) (bs : ℕ → Carried) (ss : List ℕ) whe
   unfolding placeAt
   found-none count p i h e =
       let f : find markId i (view n count ds ns bs ss) ≡ none = sym (rw (le-ltb p count h, placeAt) at e) in
-      (f, rw (find-has i (view n count ds ns bs ss), f))
+      (f, rw (find-has markId i (view n count ds ns bs ss), f))

@@ -15,6 +15,7 @@ use Rattle.frame.specs.declared.Past.the-variants.{Said, Unsaid}
 use Rattle.frame.specs.Mark.{MarkId, desks}
 use Rattle.causality.specs.Answers.{executes, waits}
 use Rattle.causality.specs.Calls.{admit, full, judge, sameFields, unmade}
+use Rattle.causality.specs.Kinds.{admitBy, judgeBy}
 use Rattle.causality.specs.Marks.{any, find, places, same, tally, waitingPlaces}
 use Rattle.causality.specs.State.{Mark, State, falseStamp, ids, markId, missing, ready, reckoned, withPast}
 use Rattle.causality.proofs.Fit.{Fit}
@@ -72,8 +73,8 @@ module _ (st : State) (h : Held) (t : List ℕ) (count waiting : ℕ) (long : le
   full-test = λ i. eqb (long i + many i) places
 
   pub admit-full : count + waiting ≡ places → refused 9 ≡ admit st (heldMark h)
-  unfolding admit
-  admit-full e = rw (full-test ∙ eq-eqb (count + waiting) places e, admit) refl
+  unfolding admitBy
+  admit-full e = rw (full-test ∙ eq-eqb (count + waiting) places e, admitBy) refl
 
   -- The readiness test yields x.
   module _ (n : count + waiting ≡ places → ⊥) (x : ℕ) (e : x ≡ missingBy width t (h .desk) (h .number .0) (h .row)) where
@@ -96,12 +97,12 @@ module _ (st : State) (h : Held) (t : List ℕ) (count waiting : ℕ) (long : le
         found = g (rw is-ready tt)
 
         pub admit-false : r ≡ 0 → refused 11 ≡ admit st (heldMark h)
-        unfolding admit
-        admit-false s = rw (room, admit) (rw is-ready (rw (kept-none (st .executed) (heldMark h) r found s) refl))
+        unfolding admitBy
+        admit-false s = rw (room, admitBy) (rw is-ready (rw (kept-none (st .executed) (heldMark h) r found s) refl))
 
         pub admit-runs : (r ≡ 0 → ⊥) → gives (executes (heldMark (heldWith h r))) ≡ admit st (heldMark h)
-        unfolding admit
-        admit-runs s = let k = kept-some (st .executed) (heldMark h) r found s in rw (room, admit) (rw is-ready (rw (k .0) (ap (λ (p : Past). gives (executes (withPast (heldMark h) p))) (k .1))))
+        unfolding admitBy
+        admit-runs s = let k = kept-some (st .executed) (heldMark h) r found s in rw (room, admitBy) (rw is-ready (rw (k .0) (ap (λ (p : Past). gives (executes (withPast (heldMark h) p))) (k .1))))
 
     -- Not ready.
     module _ (z : x ≡ 0 → ⊥) where
@@ -109,12 +110,12 @@ module _ (st : State) (h : Held) (t : List ℕ) (count waiting : ℕ) (long : le
       not-ready = ready-test ∙ ne-eqb x 0 z
 
       pub admit-crowded : waiting ≡ waitingPlaces → refused 10 ≡ admit st (heldMark h)
-      unfolding admit
-      admit-crowded w = rw (room, admit) (rw not-ready (rw (ap (λ (x : ℕ). eqb x waitingPlaces) many ∙ eq-eqb waiting waitingPlaces w) refl))
+      unfolding admitBy
+      admit-crowded w = rw (room, admitBy) (rw not-ready (rw (ap (λ (x : ℕ). eqb x waitingPlaces) many ∙ eq-eqb waiting waitingPlaces w) refl))
 
       pub admit-holds : (waiting ≡ waitingPlaces → ⊥) → gives (waits (heldMark h) x) ≡ admit st (heldMark h)
-      unfolding admit
-      admit-holds w = rw (room, admit) (rw not-ready (rw (ap (λ (x : ℕ). eqb x waitingPlaces) many ∙ ne-eqb waiting waitingPlaces w) (ap (λ (n : ℕ). gives (waits (heldMark h) n)) (sym short-test))))
+      unfolding admitBy
+      admit-holds w = rw (room, admitBy) (rw not-ready (rw (ap (λ (x : ℕ). eqb x waitingPlaces) many ∙ ne-eqb waiting waitingPlaces w) (ap (λ (n : ℕ). gives (waits (heldMark h) n)) (sym short-test))))
 
 -- 7, KNOWN AND 8
 
@@ -143,15 +144,15 @@ module _ (own : ℕ) (b : Arrays) (q : Waiting) (h : Held) (k : KeptIn own b q) 
       unmade-by-row width (stateIn own b q) (h .row) (o .0) (o .1) (heldId h) ∙ (λ i. (eqb (h .desk) (own) && ltb (e i) (h .number .0)) || ltb (e i) (getD (h .row) (own - 1) 0))
 
   pub judge-unmade : unmadeBy (b .tally) (own) h ≡ true → refused 7 ≡ judge (stateIn own b q) (heldMark h)
-  unfolding judge
-  judge-unmade e = rw (unmade-test ∙ e, judge) refl
+  unfolding judgeBy
+  judge-unmade e = rw (unmade-test ∙ e, judgeBy) refl
 
   module _ (made : unmadeBy (b .tally) (own) h ≡ false) where
     -- A held mark a of the same name: Known or 8 by the fields.
     judge-held : (a : Held) → find markId (heldId h) ((stateIn own b q) .executed ++ (stateIn own b q) .waiting) ≡ some (heldMark a)
         → knownIf (sameFields (heldMark a) (heldMark h)) ≡ judge (stateIn own b q) (heldMark h)
-    unfolding judge
-    judge-held a w = rw (unmade-test ∙ made, judge) (rw w refl)
+    unfolding judgeBy
+    judge-held a w = rw (unmade-test ∙ made, judgeBy) (rw w refl)
 
     -- A mark found among the executed ones, or else among the waiting ones.
     pub judge-executed : (p : ℕ) (a : Held) → p < b .count
@@ -175,7 +176,7 @@ module _ (own : ℕ) (b : Arrays) (q : Waiting) (h : Held) (k : KeptIn own b q) 
           judge-held a (both (some (heldMark a)) (s .0 ∙ ap some (sym m)))
 
       pub judge-new : q .count ≤ i → admit (stateIn own b q) (heldMark h) ≡ judge (stateIn own b q) (heldMark h)
-      unfolding judge
+      unfolding judgeBy
       judge-new l =
           let w = both none (found-none width (q .desks) (q .numbers) (carriedAt (q .boxes) (q .pasts)) (q .stamps) (q .count) i (heldId h) l e .0) in
-          rw (unmade-test ∙ made, judge) (rw w refl)
+          rw (unmade-test ∙ made, judgeBy) (rw w refl)

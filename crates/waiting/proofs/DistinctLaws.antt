@@ -1,19 +1,21 @@
 -- No two waiting marks have the same name, in every state that came from New and the calls. Assumes nothing.
-use Prim.Native.Nat.{ℕ, suc, zero}
+use Prim.Native.Nat.{ℕ}
 use lib.ListN.{length}
 use mathlib.Core.Bool.{Bool, _||_, false, true}
 use mathlib.Core.List.{List, [], _++_, _∷_}
-use mathlib.Core.Option.{Option, none, some}
+use mathlib.Core.Option.{none}
 use mathlib.Core.Path.{_∙_, _≡_, ap, refl, sym}
 use Rattle.frame.specs.declared.MarkBox.{MarkBox}
 use Rattle.frame.specs.Answer.{Answer, gives, refused}
 use Rattle.frame.specs.Mark.{MarkId, isDesk}
 use Rattle.causality.specs.Answers.{Judgement, Numbered}
-use Rattle.causality.specs.Calls.{Created, FromCalls, act, begun, empty, execute, executing, mark, markAnswer, markIn, marked, new, newMark, receive, received, release, stateIf}
-use Rattle.causality.specs.Marks.{find, has, lowest, same, without}
-use Rattle.causality.specs.State.{Mark, State, falseStamp, ids, markId, ready, reckoned}
-use Rattle.causality.proofs.Lists.{find-has, has-append, ids-append, isSome}
+use Rattle.causality.specs.Calls.{Created, FromCalls, act, begun, empty, execute, mark, markAnswer, markIn, marked, newMark, receive, received, release, rules, stateIf}
+use Rattle.causality.specs.Kinds.{executingBy, markOf, newOf, receiveOf}
+use Rattle.causality.specs.Marks.{find, has, same, without}
+use Rattle.causality.specs.State.{Mark, State, ids, markId, reckoned}
+use Rattle.causality.proofs.Lists.{find-has, has-append, map-append, isSome}
 use Rattle.causality.proofs.Cases.{JudgeCase, received-case, to-execute, to-know, to-refuse, to-wait}
+use Rattle.causality.proofs.Releases.{release-keeps}
 use Rattle.waiting.specs.Queue.{Distinct}
 use Rattle.waiting.proofs.ListLaws.{or-fst, or-snd}
 
@@ -35,37 +37,28 @@ distinct-without a (x ∷ xs) d = go (same a (x .id)) (distinct-without a xs (d 
     go false h = (has-without (x .id) a xs (d .0), h)
 
 pub distinct-release : (turns : ℕ) (l ws : List Mark) (k f : ℕ) → Distinct ws → Distinct ((release turns l ws k f) .waiting)
-distinct-release zero l ws k f d = d
-distinct-release (suc turns) l ws k f d = go (lowest markId (ready l) ws) refl (distinct-release turns)
-  where
-    go : (o : Option Mark) → lowest markId (ready l) ws ≡ o → ((l ws : List Mark) (k f : ℕ) → Distinct ws → Distinct ((release turns l ws k f) .waiting)) → Distinct ((release (suc turns) l ws k f) .waiting)
-    go none e ih = rw (e, release) d
-    go (some w) e ih = by (falseStamp l w) refl
-      where
-        by : (c : Bool) → falseStamp l w ≡ c → Distinct ((release (suc turns) l ws k f) .waiting)
-        by true q = rw (e, release) (rw q (ih l (without markId (w .id) ws) k (suc f) (distinct-without (w .id) ws d)))
-        by false q = rw (e, release) (rw q (ih (reckoned l w ∷ l) (without markId (w .id) ws) (suc k) f (distinct-without (w .id) ws d)))
+distinct-release = release-keeps rules (λ l ws k f. Distinct ws) (λ l ws k f w d e. distinct-without (w .id) ws d) (λ l ws k f w d e t. distinct-without (w .id) ws d)
 
 -- A name that is not found is none of the later ones.
 absent : (a : MarkId) (xs ys : List Mark) → find markId a (xs ++ ys) ≡ none → has a (ids ys) ≡ false
-absent a xs ys e = or-snd (has a (ids xs)) (has a (ids ys)) (sym (has-append a (ids xs) (ids ys)) ∙ ap (has a) (sym (ids-append xs ys)) ∙ find-has a (xs ++ ys) ∙ ap isSome e)
+absent a xs ys e = or-snd (has a (ids xs)) (has a (ids ys)) (sym (has-append a (ids xs) (ids ys)) ∙ ap (has a) (sym (map-append markId xs ys)) ∙ find-has markId a (xs ++ ys) ∙ ap isSome e)
 
 module _ (N : ℕ) where
   distinct-receive : (st : State) (s : List ℕ) → Distinct (st .waiting) → Distinct ((receive N st s) .state .waiting)
-  unfolding receive executing
+  unfolding receiveOf executingBy
   distinct-receive st s d = go (received-case N st s)
     where
       m : Mark
       m = markIn N s
 
-      go : {j : Answer (Judgement Mark)} → JudgeCase st m j → Distinct ((act st j) .state .waiting)
+      go : {j : Answer (Judgement Mark)} → JudgeCase rules st m j → Distinct ((act st j) .state .waiting)
       go (to-refuse c) = d
       go to-know = d
       go (to-wait a b c) = (absent (m .id) (st .executed) (st .waiting) (a .absent), d)
       go (to-execute a b c) = distinct-release (length (st .waiting)) (reckoned (st .executed) m ∷ st .executed) (st .waiting) 1 0 d
 
   distinct-marked : (st : State) (b : MarkBox) (out : List ℕ) → Distinct (st .waiting) → Distinct ((mark N st b out) .state .waiting)
-  unfolding mark
+  unfolding markOf
   distinct-marked st b out d = go (markAnswer N st b (length out))
     where
       go : (a : Answer Numbered) → Distinct ((stateIf a (execute (newMark st b) st) st) .waiting)
@@ -73,7 +66,7 @@ module _ (N : ℕ) where
       go (refused c) = d
 
   pub waiting-distinct : {st : State} → FromCalls N st → Distinct (st .waiting)
-  unfolding new
+  unfolding newOf
   waiting-distinct (begun d) = go (isDesk N d)
     where
       go : (b : Bool) → Distinct ((elim b as (λ x. Created) [ true ↦ record { state = empty d; answer = gives d } | false ↦ record { state = empty 1; answer = refused 1 } ]) .state .waiting)

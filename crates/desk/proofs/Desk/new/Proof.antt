@@ -6,16 +6,17 @@ use borrow.Author.Needs.{needs}
 use Rattle.frame.specs.Answer.{gives, refused}
 use Rattle.frame.specs.Mark.{desks, isDesk}
 use Rattle.causality.specs.Calls.{Created, FromCalls, begun, empty, new}
+use Rattle.causality.specs.Kinds.{newOf}
 use Rattle.desk.proofs.Desk.new.Statement.{statement}
 use Rattle.desk.proofs.Desk.new.Tie as tie
 
 given : (d : ℕ) → isDesk desks d ≡ true → new desks d ≡ record { state = empty d; answer = gives d }
-unfolding new
-given d e = rw (e, new) refl
+unfolding newOf
+given d e = rw (e, newOf) refl
 
 denied : (d : ℕ) → isDesk desks d ≡ false → new desks d ≡ record { state = empty 1; answer = refused 1 }
-unfolding new
-denied d e = rw (e, new) refl
+unfolding newOf
+denied d e = rw (e, newOf) refl
 
 returns : tie.Need-returns
 returns c =
