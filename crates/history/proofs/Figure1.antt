@@ -9,7 +9,7 @@ use Rattle.frame.specs.Mark.{MarkId, boxRule, desks, isDesk}
 use Rattle.causality.specs.Marks.{All, all, has, same}
 use Rattle.causality.proofs.Logic.{and-fst, and-snd, or-cases, same→eq}
 use Rattle.history.specs.Paper.{Chain, IsVector, Links, PaperOver, Precedes, link, onward}
-use Rattle.history.specs.Plain.{frameSize, handOver, isLast, lastOfPast, leaveOut, listsFull, making, newMade, pastListed}
+use Rattle.history.specs.Plain.{frameSize, handOver, isLast, lastOfPast, leaveOut, listsFull, makingBy, newMade, pastListed}
 use Rattle.history.specs.Run.{Step, atDesk, handing, marking}
 use Rattle.history.specs.Silent.{listedAt}
 use Rattle.history.proofs.Paper.{paper}
@@ -56,7 +56,7 @@ law : PaperOver desks figure
 law = paper desks figure at
 
 pub figure-1 : Figure1
-unfolding boxRule same leaveOut listsFull pastListed isLast frameSize newMade making handOver lastOfPast
+unfolding boxRule same leaveOut listsFull pastListed isLast frameSize newMade makingBy handOver lastOfPast
 figure-1 = record {
   o11 = record { before = λ a. law .definition-1 a (o 1 1); vector = law .definition-4 (o 1 1) };
   o21 = record { before = λ a. law .definition-1 a (o 2 1); vector = law .definition-4 (o 2 1) };
@@ -83,7 +83,7 @@ pub record Needed : Type 0 where
   pub interrupted : ¬ Chain figure gap (o 1 1) (o 2 2)
 
 pub needed : Needed
-unfolding boxRule same leaveOut listsFull pastListed isLast frameSize newMade making handOver
+unfolding boxRule same leaveOut listsFull pastListed isLast frameSize newMade makingBy handOver
 needed = record {
   executed-later = (tt, law .definition-1 (o 2 1) (o 1 1) .0);
   generated-later = (law .definition-1 (o 1 1) (o 1 2) .1 tt, law .definition-1 (o 1 2) (o 1 1) .0);

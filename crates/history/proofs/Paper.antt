@@ -16,13 +16,13 @@ use Rattle.causality.specs.Calls.{earlier, markIn}
 use Rattle.causality.specs.Marks.{All, any, find, has, keep, same, tally}
 use Rattle.causality.specs.State.{Mark, State, concurrent, ids, markId, precedes, ready}
 use Rattle.causality.proofs.Fit.{fit-back}
-use Rattle.causality.proofs.Lists.{Picked, all-at, all-ids, all-intro, all-map, any-find, any-of, find-all, find-has, has-keep, has-rising, has-self, isSome, keep-has}
+use Rattle.causality.proofs.Lists.{Picked, all-at, all-names, all-intro, all-map, any-find, any-of, find-all, find-has, has-keep, has-rising, has-self, isSome, keep-has}
 use Rattle.causality.proofs.Logic.{and-fst, and-intro, and-snd, or-cases, or-inr, same-refl, same→eq, split}
 use Rattle.causality.proofs.Numbers.{Strict}
 use Rattle.causality.proofs.Past.{Good, Standing, behind-all, counted, precedes-past, prefix-has, ready-past, ready-stands}
 use Rattle.history.specs.Evidence.{happenedBefore}
 use Rattle.history.specs.Paper.{Apart, Chain, IsReady, IsVector, Links, MadeAt, Paper, PaperAt, Precedes, RisingDesks, Traced, TracedWith, Uninterrupted, executed-before, generated-before, link, onward, through}
-use Rattle.history.specs.Plain.{DeskLists, MadeMark, frameSize, lastOfPast, leaveOut, listsAt, listsFull, madeIds, making, newMade, pastOf, recorded}
+use Rattle.history.specs.Plain.{DeskLists, MadeMark, frameSize, lastOfPast, leaveOut, listsAt, listsFull, madeIds, making, makingBy, newMade, pastOf, recorded}
 use Rattle.history.specs.Run.{Step, atDesk, handing, marking, run, toFirst, toSecond}
 use Rattle.history.specs.Silent.{listedAt}
 use Rattle.history.proofs.Calls.{made-ids, madeOf}
@@ -43,17 +43,17 @@ pastIn s = pastOf (plainOf s .made)
 
 -- A making that is not left out gives the new mark's number.
 making-number : (d : ℕ) (ls : DeskLists) (b : MarkBox) (lent : ℕ) (n : Numbered) → making d ls b lent .answer ≡ gives n → n .number ≡ suc (tally d (madeIds (ls .listed)))
-unfolding making leaveOut
+unfolding makingBy leaveOut
 making-number d ls b lent n e = go (boxRule b) (listsFull ls) (ltb lent (frameSize ls)) refl refl refl e
   where
     never : {X : Type 0} (c : ℕ) → refused c ≡ gives n → X
     never c q = let z : _≡_ {A = ℕ} 0 1 = cc in let y : ⊥ = omega arith in absurd y
 
     go : (x y z : Bool) → boxRule b ≡ x → listsFull ls ≡ y → ltb lent (frameSize ls) ≡ z → making d ls b lent .answer ≡ gives n → n .number ≡ suc (tally d (madeIds (ls .listed)))
-    go false y z ex ey ez q = never 5 (rw (ex, making) at q)
-    go true true z ex ey ez q = never 9 (rw ey at (rw (ex, making) at q))
-    go true false true ex ey ez q = never 13 (rw ez at (rw ey at (rw (ex, making) at q)))
-    go true false false ex ey ez q = let p = rw ez at (rw ey at (rw (ex, making) at q)) in cc
+    go false y z ex ey ez q = never 5 (rw (ex, makingBy) at q)
+    go true true z ex ey ez q = never 9 (rw ey at (rw (ex, makingBy) at q))
+    go true false true ex ey ez q = never 13 (rw ez at (rw ey at (rw (ex, makingBy) at q)))
+    go true false false ex ey ez q = let p = rw ez at (rw ey at (rw (ex, makingBy) at q)) in cc
 
 -- What holds of the marks made holds of those made before.
 made-back : (P : MadeMark → Type 0) (later s : List Step) → All P (plainOf (later ++ s) .made) → All P (plainOf s .made)
@@ -166,9 +166,9 @@ module _ (N : ℕ) (sd : 1 ≤ N) (s : List Step) (at : AtDesks N s) where
   mark-of b t = go (find markId b (w .made)) refl
     where
       go : (o : Option Mark) → find markId b (w .made) ≡ o → MarkOf b
-      go none e = absurd (subst (λ (o : Option Mark). T (isSome o)) e (subst T (find-has b (w .made)) (rw names at t)))
+      go none e = absurd (subst (λ (o : Option Mark). T (isSome o)) e (subst T (find-has markId b (w .made)) (rw names at t)))
       go (some m) e =
-          let p = subst (Picked (Recorded N sd past (registerAt N sd s) w) (λ v. same b (v .id))) e (find-all (Recorded N sd past (registerAt N sd s) w) b (w .made) (inv .made)) in
+          let p = subst (Picked (Recorded N sd past (registerAt N sd s) w) (λ v. same b (v .id))) e (find-all markId (Recorded N sd past (registerAt N sd s) w) b (w .made) (inv .made)) in
           record { m = m; name = sym (same→eq b (m .id) (p .1)); rec = p .0 }
 
   -- A mark made is listed at its own desk, and a listed one is made.
@@ -185,7 +185,7 @@ module _ (N : ℕ) (sd : 1 ≤ N) (s : List Step) (at : AtDesks N s) where
   listed-made : (d : ℕ) (a : MarkId) → T (has a (listedAt s d)) → T (has a (madeIn s))
   listed-made d a t =
       let l = (markStateAt N w d) .executed in
-      rw names (rw (find-has a (w .made)) (all-ids (λ i. T (isSome (registerAt N sd s i))) l (all-map (λ m k. rw (k .registered) tt) l (inv .ok d .ks)) a (rw (listed-ids d) at t)))
+      rw names (rw (find-has markId a (w .made)) (all-names markId (λ i. T (isSome (registerAt N sd s i))) l (all-map (λ m k. rw (k .registered) tt) l (inv .ok d .ks)) a (rw (listed-ids d) at t)))
 
   each-past : (ms : List Mark) → All (λ x. past (x .id) ≡ x .past) (map (madeOf past) ms)
   unfolding madeOf
