@@ -1,5 +1,5 @@
 -- Marks by their places: names, and what is or follows a mark. Assumes nothing.
-use Prim.Native.Nat.{_<_, _≤_, suc, zero, ℕ}
+use Prim.Native.Nat.{_<_, _≤_, ℕ}
 use borrow.Author.Tests.{eqb-false, eqb-true}
 use lib.Dec.{T, eqb, ltb, ltb→lt, nltb→le, not-T}
 use mathlib.Core.Bool.{Bool, _||_}
@@ -8,21 +8,13 @@ use mathlib.Core.Logic.{inl, inr}
 use mathlib.Core.Path.{_∙_, _≡_, ap, subst, sym}
 use native.Mathlib.Omega.{arith}
 use Rattle.frame.specs.Mark.{MarkId}
-use Rattle.causality.specs.Marks.{has, same}
-use Rattle.causality.proofs.Logic.{T→eq, nT→eq, or-cases, same-refl, same→eq, split}
+use Rattle.causality.specs.Marks.{same}
+use Rattle.causality.proofs.Logic.{T→eq, nT→eq, same-refl, same→eq, split}
 use Rattle.causality.proofs.Reach.{Sound}
-use Rattle.rows.specs.View.{Carried, nameAt, namesDown, view}
+use Rattle.rows.specs.View.{Carried, nameAt, view}
 use Rattle.rows.proofs.Arrays.{sound-below}
 use Rattle.rows.proofs.Places.{has-at, not-before, precedes-there}
 use Rattle.concurrent.specs.Steps.{isOrFollows}
-
--- A named mark stands at a place.
-pub name-place : (ds ns : List ℕ) (q : ℕ) (i : MarkId) → T (has i (namesDown q ds ns)) → (r : ℕ) × (r < q) × (nameAt ds ns r ≡ i)
-name-place ds ns zero i t = absurd t
-name-place ds ns (suc q) i t = elim (or-cases (same i (nameAt ds ns q)) (has i (namesDown q ds ns)) t) [
-  | inl u ↦ (q, omega arith, sym (same→eq i (nameAt ds ns q) u))
-  | inr u ↦ let x = name-place ds ns q i u in let h = x .1 in (x .0, omega arith, x .2)
-]
 
 -- Two places have one name only if they are one.
 pub same-place : (n : ℕ) (ds ns : List ℕ) (bs : ℕ → Carried) (ss : List ℕ) (count p q : ℕ) → Sound (view n count ds ns bs ss) → p < count → q < count

@@ -14,12 +14,12 @@ use Rattle.causality.proofs.Reach.{Sound}
 use Rattle.predecessors.proofs.OldestLaws.{names-one-more, namesIn, one}
 use Rattle.rows.specs.View.{Carried, Named, nameAt, rowAt, rowFn, view}
 use Rattle.rows.proofs.Arrays.{follows-below, sound-below}
-use Rattle.rows.proofs.Places.{ids-names}
+use Rattle.rows.proofs.Places.{ids-names, name-place}
 use Rattle.rows.proofs.RowSteps.{named-at}
 use Rattle.rows.proofs.Slots.{zeros}
 use Rattle.concurrent.proofs.Followers.{Noted, none-before, note-behind, note-new, note-none, noted-none}
 use Rattle.concurrent.specs.Steps.{Tells, isOrFollows}
-use Rattle.concurrent.proofs.ByPlaces.{follows-there, name-place}
+use Rattle.concurrent.proofs.ByPlaces.{follows-there}
 use Rattle.causality.proofs.Upto.{count-all, sum-zero}
 
 -- HOW MANY DESKS HAVE ONE

@@ -21,9 +21,9 @@ use Rattle.causality.proofs.RowLaws.{show, shown}
 use Rattle.causality.specs.Rows.{entriesOfRow}
 use Rattle.rows.specs.View.{Carried, markAt, nameAt, rowAt, rowFn, view}
 use Rattle.rows.proofs.Arrays.{follows-below, sound-below}
-use Rattle.rows.proofs.Places.{has-at, ids-names, not-before, precedes-no-earlier, precedes-there}
+use Rattle.rows.proofs.Places.{has-at, ids-names, not-before, precedes-no-earlier, precedes-there, name-place}
 use Rattle.concurrent.specs.Steps.{Tells, isOrFollows}
-use Rattle.concurrent.proofs.ByPlaces.{follows-there, name-place}
+use Rattle.concurrent.proofs.ByPlaces.{follows-there}
 use Rattle.evidence.specs.Steps.{LowestReached, PlaceBelow, reachedAt}
 use Rattle.evidence.proofs.LowestEntry.{lowest-at, lowest-none}
 

@@ -1,8 +1,8 @@
 -- The chain of a desk's places, from each mark to the desk's previous one, and finding a mark by it. Assumes nothing.
-use Prim.Native.Nat.{_+_, _-_, _<_, _≤_, suc, zero, ℕ}
-use lib.Dec.{T, T-not, eqb, eqb-refl, eqb→eq, ltb, ltb→lt, nltb→le, not-T}
+use Prim.Native.Nat.{_-_, _<_, _≤_, suc, zero, ℕ}
+use lib.Dec.{T, T-not, eqb, eqb→eq, ltb, ltb→lt, nltb→le, not-T}
 use lib.ListN.{getD, length}
-use mathlib.Core.Bool.{Bool, _||_, false, not, true}
+use mathlib.Core.Bool.{Bool, false, not, true}
 use mathlib.Core.List.{List, [], _∷_}
 use mathlib.Core.Logic.{_⊎_, inl, inr, ⊎-elim}
 use mathlib.Core.Option.{Option, none, some}
@@ -89,8 +89,6 @@ chain-step d n (i ∷ is) bf c h p q = go (split (same a i)) (chain-step d n is 
         listed (inr s) = s
 
 -- A name that is not listed has no place.
-no-place : (is : List MarkId) (a : MarkId) → placeIn is a ≡ 0 → has a is ≡ false
-no-place is a e = nT→eq (has a is) (not-T (has a is) (λ t. let p = place-some is a t in omega arith))
 
 -- The walk down the chain of the desk at index j of the rows.
 module _ (is : List MarkId) (ts ls bf : List ℕ) (c : Chain is ts ls bf) (j : ℕ) (l : j < width) where

@@ -4,11 +4,11 @@ use lib.Dec.{T, T-not, eqb, eqb-refl, eqb→eq, leb, leb→le, nleb→lt, not-T}
 use mathlib.Core.Bool.{Bool, _||_, false, not, true}
 use mathlib.Core.List.{List, _∷_}
 use mathlib.Core.Logic.{_⊎_, inl, inr}
-use mathlib.Core.Path.{_∙_, _≡_, ap, refl, subst, sym}
+use mathlib.Core.Path.{_∙_, _≡_, ap, subst, sym}
 use native.Mathlib.Omega.{arith}
 use Rattle.frame.specs.Mark.{MarkId}
-use Rattle.causality.specs.Marks.{has, keep, same, tally}
-use Rattle.causality.specs.State.{Mark, heads, ids}
+use Rattle.causality.specs.Marks.{has, keep, same}
+use Rattle.causality.specs.State.{Mark, heads}
 use Rattle.causality.proofs.Heads.{heads-step}
 use Rattle.causality.proofs.Lists.{has-insert, has-keep, keep-has}
 use Rattle.causality.proofs.Logic.{T→eq, nT→eq, or-cases, or-inl, or-inr, same-refl, same→eq, split}

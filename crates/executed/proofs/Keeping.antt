@@ -6,7 +6,7 @@ use lib.Seq.{getD-set-other, getD-set-same}
 use mathlib.Core.Bool.{Bool, false, true}
 use mathlib.Core.List.{List, [], _∷_}
 use mathlib.Core.Logic.{inl, inr}
-use mathlib.Core.Path.{_∙_, _≡_, ap, refl, subst, sym}
+use mathlib.Core.Path.{_∙_, _≡_, ap, refl, sym}
 use native.Mathlib.Omega.{arith}
 use Rattle.frame.specs.Mark.{MarkId}
 use Rattle.causality.specs.Marks.{places, tally}
@@ -15,7 +15,7 @@ use Rattle.causality.proofs.Logic.{T→eq, nT→eq, split}
 use Rattle.causality.proofs.Numbers.{Strict}
 use Rattle.causality.proofs.Reach.{Sound}
 use Rattle.causality.specs.inner.Passes.{rowOf}
-use Rattle.rows.specs.View.{ZeroFrom, width}
+use Rattle.rows.specs.View.{width}
 use Rattle.executed.specs.Rows.{Chained, Rows, lastIn, turned}
 use Rattle.executed.proofs.HeadRow.{eq→eqb, head-row-step}
 

@@ -1,25 +1,20 @@
 -- The arrays after an execution: one mark more, and the kept rows with it. Assumes nothing.
 use Prim.Native.Nat.{_+_, _-_, _<_, _≤_, suc, ℕ}
 use lib.ListN.{getD, length, length-set, set}
-use lib.Dec.{T-not, eqb, eqb→eq}
-use lib.Seq.{getD-set-other, getD-set-same}
 use mathlib.Core.List.{List, _∷_}
-use mathlib.Core.Logic.{inl, inr}
 use mathlib.Core.Path.{_∙_, _≡_, ap, subst, sym}
 use native.Mathlib.Numerals.{sub-one}
 use native.Mathlib.Omega.{arith}
 use Rattle.causality.specs.Marks.{places}
 use Rattle.causality.specs.State.{Mark, ids}
-use Rattle.causality.proofs.Logic.{T→eq, nT→eq, split}
 use Rattle.causality.proofs.RowLaws.{entries-strict, row-of-entries}
-use Rattle.rows.specs.View.{carriedAt, heldMark, rowFn, view, width}
+use Rattle.rows.specs.View.{carriedAt, heldMark, rowFn, width}
 use Rattle.rows.specs.Steps.{Stored}
 use Rattle.rows.specs.declared.Held.{Held}
 use Rattle.rows.proofs.Arrays.{view-length}
 use Rattle.rows.proofs.Slots.{stored-slots, stored-view}
 use Rattle.executed.specs.Arrays.{Arrays, Takes, Took, arrays, executedIn}
 use Rattle.executed.specs.Rows.{Rows, Struck, struck, turned}
-use Rattle.executed.proofs.HeadRow.{eq→eqb}
 use Rattle.executed.proofs.Keeping.{ids-length, rows-step, set-desk}
 
 -- The desk's own head is set in a row whose others were struck.

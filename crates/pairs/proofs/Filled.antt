@@ -2,9 +2,8 @@
 use mathlib.Core.Path.{_≡_, refl, _∙_, ap}
 use mathlib.Core.List.{List, [], _∷_, _++_, map, reverse, reverse-cons, append-assoc}
 use Prim.Native.Nat.{ℕ, zero, suc, _≤_, _<_}
-use native.Mathlib.Numerals.{add-one}
 use native.Mathlib.Omega.{arith}
-use lib.ListN.{length, set, drop, length-set, length-map, length-append}
+use lib.ListN.{length, set, drop, length-set, length-map, length-reverse}
 use lib.Seq.{drop-cons, set-at}
 use Rattle.frame.specs.Answer.{Answer, gives, refused}
 use Rattle.frame.specs.Frame.{overIf}
@@ -12,8 +11,9 @@ use Rattle.frame.specs.Mark.{MarkId}
 use Rattle.causality.specs.declared.MarkId.{MarkId as CodeId}
 use Rattle.causality.specs.Meaning.{idOf}
 use Rattle.pairs.specs.Pairs.{pairAt, filled, marksOf, ListsIf}
-use Rattle.rows.specs.View.{namesDown}
+use Rattle.rows.specs.View.{namesDown, nameAt}
 use Rattle.pairs.specs.declared.Listed.{Listed}
+use Rattle.rows.proofs.Down.{down-length}
 
 pub length-filled : (xs : List CodeId) (list : Listed) (k : ℕ) → length (filled xs list k) ≡ length xs
 length-filled xs list zero = refl
@@ -29,8 +29,7 @@ abbrev namesUp : ℕ → List ℕ → List ℕ → List MarkId
 namesUp k ds ns = reverse (namesDown k ds ns)
 
 length-namesUp : (k : ℕ) (ds ns : List ℕ) → length (namesUp k ds ns) ≡ k
-length-namesUp zero ds ns = refl
-length-namesUp (suc k) ds ns = rw (reverse-cons, length-append, length-namesUp k ds ns) (add-one k)
+length-namesUp k ds ns = length-reverse (namesDown k ds ns) ∙ down-length (nameAt ds ns) k
 
 pub length-marksOf : (list : Listed) → length (marksOf list) ≡ list .count
 unfolding marksOf

@@ -1,9 +1,9 @@
 -- One name more in a list. Assumes nothing.
-use Prim.Native.Nat.{_+_, _<_, _≤_, suc, zero, ℕ}
+use Prim.Native.Nat.{_+_, _<_, ℕ}
 use lib.ListN.{set}
 use lib.Seq.{getD-set-other, getD-set-same}
-use mathlib.Core.List.{List, _∷_}
-use mathlib.Core.Path.{_≡_, refl}
+use mathlib.Core.List.{_∷_}
+use mathlib.Core.Path.{_≡_}
 use native.Mathlib.Numerals.{add-one}
 use native.Mathlib.Omega.{arith}
 use Rattle.causality.specs.Marks.{places}
@@ -11,15 +11,7 @@ use Rattle.pairs.specs.Pairs.{Spare}
 use Rattle.pairs.specs.declared.Listed.{Listed}
 use Rattle.rows.specs.View.{nameAt, namesDown}
 use Rattle.rows.proofs.Slots.{zero-one}
-
--- Names below a place keep where another is stored.
-names-kept : (ds ns : List ℕ) (k d m j : ℕ) → j ≤ k → namesDown j (set ds k d) (set ns k m) ≡ namesDown j ds ns
-names-kept ds ns k d m zero h = refl
-names-kept ds ns k d m (suc j) h =
-    let e = getD-set-other ds k j d 0 (λ x. omega arith) in
-    let f = getD-set-other ns k j m 0 (λ x. omega arith) in
-    let r = names-kept ds ns k d m j (omega arith) in
-    λ i. record { desk = e i; number = f i } ∷ r i
+use Rattle.rows.proofs.Down.{down-cong}
 
 -- A list with a name stored behind its last.
 abbrev pub longer : Listed → ℕ → ℕ → Listed
@@ -48,5 +40,5 @@ module _ (list : Listed) (spare : Spare list) (d m : ℕ) where
       → namesDown (list .count + 1) (set (list .desks) (list .count) d) (set (list .numbers) (list .count) m) ≡ record { desk = d; number = m } ∷ namesDown (list .count) (list .desks) (list .numbers)
   longer-names h =
       let e = longer-new h in
-      let f = names-kept (list .desks) (list .numbers) (list .count) d m (list .count) (omega arith) in
+      let f = down-cong (nameAt (set (list .desks) (list .count) d) (set (list .numbers) (list .count) m)) (nameAt (list .desks) (list .numbers)) (list .count) longer-kept in
       rw (add-one (list .count)) (λ i. e i ∷ f i)

@@ -15,13 +15,14 @@ use Rattle.causality.proofs.Logic.{eq→T, nT→eq, split}
 use Rattle.causality.proofs.Past.{prefix-le}
 use Rattle.causality.proofs.Reach.{Sound, sound-counted}
 use Rattle.causality.specs.inner.Passes.{under}
-use Rattle.rows.specs.View.{Carried, Named, namesDown, rowFn, view, width}
+use Rattle.rows.specs.View.{Carried, Named, namesDown, rowFn, view, width, nameAt}
 use Rattle.rows.proofs.Arrays.{sound-below}
 use Rattle.rows.proofs.Places.{ids-names}
 use Rattle.rows.proofs.RowSteps.{one-turn, pass-ended, pass-rest, pass-step}
 use Rattle.queries.specs.Steps.{AskedOf, endsAt, followedTo}
-use Rattle.queries.proofs.MadeBefore.{names-length, tally-few}
+use Rattle.queries.proofs.MadeBefore.{tally-few}
 use Rattle.queries.proofs.Reaching.{reach-end, reach-now, reached}
+use Rattle.rows.proofs.Down.{down-length}
 
 module _ (n : ℕ) (ds ns : List ℕ) (bs : ℕ → Carried) (ss : List ℕ) (i : MarkId) (row : List ℕ) (at : ℕ) where
   -- The row tells of the mark: it counts it if it reaches it.
@@ -80,7 +81,7 @@ module _ (ds ns ss row : List ℕ) (at : ℕ) (i : MarkId) where
       not-ended = rw (lt-leb (i .number) (rowFn row (i .desk)) h) (le-ltb (tally (i .desk) (namesDown at ds ns)) (i .number) (omega arith))
 
       pub some-place : 0 < at
-      some-place = let p = h in omega (arith, tally-few (i .desk) (namesDown at ds ns), names-length ds ns at)
+      some-place = let p = h in omega (arith, tally-few (i .desk) (namesDown at ds ns), down-length (nameAt ds ns) at)
 
   -- The row once the mark before the place is examined.
   abbrev pub Turned : List ℕ → Type 0

@@ -6,7 +6,6 @@ use mathlib.Core.Bool.{not}
 use mathlib.Core.List.{List, [], _∷_}
 use mathlib.Core.Logic.{inl, inr}
 use mathlib.Core.Path.{_∙_, _≡_, ap, refl, subst, sym}
-use native.Mathlib.Numerals.{sub-one}
 use native.Mathlib.Omega.{arith}
 use Rattle.frame.specs.Mark.{MarkId}
 use Rattle.causality.specs.Marks.{tally}
@@ -17,6 +16,7 @@ use Rattle.executed.specs.Rows.{Lent, lastIn}
 use Rattle.rows.specs.View.{Carried, nameAt, namesDown, view, width}
 use Rattle.rows.proofs.Places.{ids-names}
 use Rattle.queries.specs.Steps.{MadeBefore}
+use Rattle.rows.proofs.Down.{down-last, down-length, down-less}
 
 -- The newest of the names is of desk d, or another's.
 module _ (d : ℕ) (i : MarkId) (is : List MarkId) where
@@ -31,21 +31,9 @@ tally-few d [] = omega arith
 tally-few d (i ∷ is) = elim (split (eqb d (i .desk))) [ inl t ↦ omega (arith, own d i is t .1, tally-few d is) | inr t ↦ omega (arith, other d i is t .1, tally-few d is) ]
 
 module _ (ds ns : List ℕ) where
-  pub names-length : (k : ℕ) → length (namesDown k ds ns) ≡ k
-  names-length zero = refl
-  names-length (suc k) = ap suc (names-length k)
-
-  names-last : (q : ℕ) → 0 < q → namesDown q ds ns ≡ nameAt ds ns (q - 1) ∷ namesDown (q - 1) ds ns
-  names-last zero z = let y : ⊥ = omega arith in absurd y
-  names-last (suc k) z = rw (sub-one (suc k)) refl
-
   -- Of counted names the first are counted.
   pub counted-less : (count p : ℕ) → p ≤ count → Counted (namesDown count ds ns) → Counted (namesDown p ds ns)
-  counted-less zero p h c = let e : 0 ≡ p = omega arith in subst (λ (x : ℕ). Counted (namesDown x ds ns)) e c
-  counted-less (suc k) p h c = elim (split (ltb k p)) [
-    | inl t ↦ let o = ltb→lt k p t in let e : suc k ≡ p = omega arith in subst (λ (x : ℕ). Counted (namesDown x ds ns)) e c
-    | inr t ↦ counted-less k p (nltb→le k p t) (c .1)
-  ]
+  counted-less count p h c = down-less (nameAt ds ns) Counted (λ i is x. x .1) count p h c
 
   module _ (d : ℕ) where
     -- The desk's last mark stands before place p: so do all.
@@ -54,20 +42,20 @@ module _ (ds ns : List ℕ) where
     all-before (suc k) p h l = elim (split (ltb k p)) [
       | inl t ↦ let o = ltb→lt k p t in let e : suc k ≡ p = omega arith in ap (λ (x : ℕ). tally d (namesDown x ds ns)) e
       | inr t ↦ let b = nltb→le k p t in elim (split (eqb d (getD ds k 0))) [
-        | inl u ↦ let m = names-length k in let z : ⊥ = omega (arith, own d (nameAt ds ns k) (namesDown k ds ns) u .0) in absurd z
+        | inl u ↦ let m = down-length (nameAt ds ns) k in let z : ⊥ = omega (arith, own d (nameAt ds ns k) (namesDown k ds ns) u .0) in absurd z
         | inr u ↦ other d (nameAt ds ns k) (namesDown k ds ns) u .1 ∙ all-before k p b (omega (arith, other d (nameAt ds ns k) (namesDown k ds ns) u .0))
       ]
     ]
 
     -- The mark before a place is of the desk: one fewer stands before it. Or it is another's.
     own-more : (q : ℕ) → 0 < q → getD ds (q - 1) 0 ≡ d → tally d (namesDown q ds ns) ≡ suc (tally d (namesDown (q - 1) ds ns))
-    own-more q z e = ap (tally d) (names-last q z) ∙ own d (nameAt ds ns (q - 1)) (namesDown (q - 1) ds ns) (rw e (eqb-refl d)) .1
+    own-more q z e = ap (tally d) (down-last (nameAt ds ns) q z) ∙ own d (nameAt ds ns (q - 1)) (namesDown (q - 1) ds ns) (rw e (eqb-refl d)) .1
 
     pub own-less : (q : ℕ) → 0 < q → getD ds (q - 1) 0 ≡ d → (made : ℕ) → made ≡ tally d (namesDown q ds ns) → made - 1 ≡ tally d (namesDown (q - 1) ds ns)
     own-less q z e made m = omega (arith, m ∙ own-more q z e)
 
     pub other-same : (q : ℕ) → 0 < q → (getD ds (q - 1) 0 ≡ d → ⊥) → tally d (namesDown q ds ns) ≡ tally d (namesDown (q - 1) ds ns)
-    other-same q z f = ap (tally d) (names-last q z) ∙ other d (nameAt ds ns (q - 1)) (namesDown (q - 1) ds ns) (not-T (eqb d (getD ds (q - 1) 0)) (λ t. f (sym (eqb→eq d (getD ds (q - 1) 0) t)))) .1
+    other-same q z f = ap (tally d) (down-last (nameAt ds ns) q z) ∙ other d (nameAt ds ns (q - 1)) (namesDown (q - 1) ds ns) (not-T (eqb d (getD ds (q - 1) 0)) (λ t. f (sym (eqb→eq d (getD ds (q - 1) 0) t)))) .1
 
     -- Down from place p no mark of the desk has been met as far as place q.
     abbrev pub NoneDown : ℕ → ℕ → Type 0
@@ -83,7 +71,7 @@ module _ (ds ns : List ℕ) where
       -- One is met: its number counts them.
       pub met : getD ds (q - 1) 0 ≡ d → Counted (namesDown p ds ns) → getD ns (q - 1) 0 ≡ tally d (namesDown p ds ns)
       met e c =
-          let k = subst Counted (names-last q z) (counted-less p q (w .0) c) in
+          let k = subst Counted (down-last (nameAt ds ns) q z) (counted-less p q (w .0) c) in
           k .0 ∙ ap (λ (x : ℕ). suc (tally x (namesDown (q - 1) ds ns))) e ∙ sym (w .1 ∙ own-more q z e)
 
 -- LENT ARRAYS

@@ -10,15 +10,16 @@ use native.Mathlib.Omega.{arith}
 use Rattle.causality.specs.Marks.{places, tally}
 use Rattle.causality.proofs.Reach.{Sound}
 use Rattle.causality.proofs.RowLaws.{under-up}
-use Rattle.rows.specs.View.{Carried, Named, namesDown, rowAt, rowFn, view, width}
+use Rattle.rows.specs.View.{Carried, Named, namesDown, rowAt, rowFn, view, width, nameAt}
 use Rattle.rows.proofs.Arrays.{sound-below}
 use Rattle.rows.proofs.RowSteps.{named-less}
 use Rattle.queries.specs.Halving.{halving, middle, mostAsks}
 use Rattle.queries.specs.Steps.{AskedOf, SearchedOf, numberPrecedes}
 use Rattle.queries.proofs.Asking.{asked-reaches, asked-told}
-use Rattle.queries.proofs.MadeBefore.{names-length, tally-few}
+use Rattle.queries.proofs.MadeBefore.{tally-few}
 use Rattle.queries.proofs.PastRow.{reached-counts}
 use Rattle.queries.proofs.Reaching.{reached}
+use Rattle.rows.proofs.Down.{down-length}
 
 -- 2 to the n: n turns are enough for fewer numbers.
 abbrev pub power : ℕ → ℕ
@@ -68,7 +69,7 @@ module _ (ds ns ss start : List ℕ) (p d t : ℕ) where
     apart = λ bs s. omega arith;
     turns = mostAsks;
     all-turns = refl;
-    enough = omega (arith, tally-few d (namesDown p ds ns), names-length ds ns p);
+    enough = omega (arith, tally-few d (namesDown p ds ns), down-length (nameAt ds ns) p);
     asked = λ bs passes s f. omega arith;
   }
 

@@ -1,23 +1,32 @@
 -- Marks by their places in the arrays: which is listed, which is found, and precedence between two places. n: how many desks. Assumes nothing.
 use Prim.Native.Nat.{_<_, _≤_, suc, zero, ℕ}
 use borrow.Author.Tests.{le-ltb, lt-ltb}
-use lib.Dec.{T, leb, leb→le, ltb, ltb→lt, nleb→lt, nltb→le, not-T}
+use lib.Dec.{T, ltb, ltb→lt, nltb→le, not-T}
 use mathlib.Core.Bool.{Bool, _||_, false}
 use mathlib.Core.List.{List, [], _∷_}
 use mathlib.Core.Logic.{inl, inr}
 use mathlib.Core.Option.{none, some}
-use mathlib.Core.Path.{_∙_, _≡_, ap, refl, subst, sym}
+use mathlib.Core.Path.{_∙_, _≡_, refl, subst, sym}
 use native.Mathlib.Omega.{arith}
 use Rattle.frame.specs.Mark.{MarkId}
 use Rattle.causality.specs.Marks.{All, find, has, same}
 use Rattle.causality.specs.State.{Mark, ids, markId, precedes}
-use Rattle.causality.proofs.Lists.{Picked, any-find, find-all, find-has, has-self}
+use Rattle.causality.proofs.Lists.{Picked, any-find, find-all, find-has}
 use Rattle.causality.proofs.Logic.{nT→eq, or-cases, or-inr, same-refl, same→eq, split}
 use Rattle.causality.proofs.Past.{fresh-of}
 use Rattle.causality.proofs.Reach.{Sound, not-new, precedes-at, precedes-listed, precedes-old, sound-counted}
 use Rattle.rows.specs.View.{Carried, Named, markAt, nameAt, namesDown, placeAt, view}
 use Rattle.rows.proofs.Arrays.{sound-below}
-use Rattle.rows.proofs.RowSteps.{named-at, named-less}
+use Rattle.rows.proofs.RowSteps.{named-at}
+use Rattle.rows.proofs.Down.{down-has, down-ids, down-more}
+
+-- A named mark stands at a place.
+pub name-place : (ds ns : List ℕ) (q : ℕ) (i : MarkId) → T (has i (namesDown q ds ns)) → (r : ℕ) × (r < q) × (nameAt ds ns r ≡ i)
+name-place ds ns zero i t = absurd t
+name-place ds ns (suc q) i t = elim (or-cases (same i (nameAt ds ns q)) (has i (namesDown q ds ns)) t) [
+  | inl u ↦ (q, omega arith, sym (same→eq i (nameAt ds ns q) u))
+  | inr u ↦ let x = name-place ds ns q i u in let h = x .1 in (x .0, omega arith, x .2)
+]
 
 module _ (n : ℕ) (ds ns : List ℕ) (bs : ℕ → Carried) (ss : List ℕ) where
   abbrev at : ℕ → Mark
@@ -29,29 +38,19 @@ module _ (n : ℕ) (ds ns : List ℕ) (bs : ℕ → Carried) (ss : List ℕ) whe
   -- The names do not depend on what else the marks carry.
   pub ids-names : (count : ℕ) → ids (view n count ds ns bs ss) ≡ namesDown count ds ns
   unfolding view
-  ids-names zero = refl
-  ids-names (suc k) = ap (λ (is : List MarkId). nameAt ds ns k ∷ is) (ids-names k)
+  ids-names count = down-ids (markAt n ds ns bs ss) count
 
   -- A listed mark is of a desk from 1 to n.
   pub named-has : (count : ℕ) → Named n count ds → (i : MarkId) → T (has i (ids (view n count ds ns bs ss))) → (1 ≤ i .desk) × (i .desk ≤ n)
-  unfolding view
-  named-has zero f i t = absurd t
-  named-has (suc k) f i t = elim (or-cases (same i ((markAt n ds ns bs ss k) .id)) (has i (ids (view n k ds ns bs ss))) t) [
-    | inl u ↦ rw (same→eq i ((markAt n ds ns bs ss k) .id) u) (named-at n (suc k) ds k f (omega arith))
-    | inr u ↦ named-has k (named-less n (suc k) ds k f (omega arith)) i u
-  ]
+  named-has count f i t = let x = name-place ds ns count i (rw (← ids-names count) t) in subst (λ (k : MarkId). (1 ≤ k .desk) × (k .desk ≤ n)) (x .2) (named-at n count ds (x .0) f (x .1))
 
   pub has-more : (p q : ℕ) → p ≤ q → (i : MarkId) → T (has i (ids (view n p ds ns bs ss))) → T (has i (ids (view n q ds ns bs ss)))
   unfolding view
-  has-more p zero h i t = let e : p ≡ 0 = omega arith in subst (λ (x : ℕ). T (has i (ids (view n x ds ns bs ss)))) e t
-  has-more p (suc q) h i t = elim (split (leb p q)) [
-    | inl u ↦ or-inr (same i ((markAt n ds ns bs ss q) .id)) (has i (ids (view n q ds ns bs ss))) (has-more p q (leb→le p q u) i t)
-    | inr u ↦ let v = nleb→lt p q u in let e : p ≡ suc q = omega arith in subst (λ (x : ℕ). T (has i (ids (view n x ds ns bs ss)))) e t
-  ]
+  has-more p q h i t = down-more (markAt n ds ns bs ss) (λ l. T (has i (ids l))) (λ m l. or-inr (same i (m .id)) (has i (ids l))) p q h t
 
   pub has-at : (count p : ℕ) → p < count → T (has ((markAt n ds ns bs ss p) .id) (ids (view n count ds ns bs ss)))
   unfolding view
-  has-at count p h = has-more (suc p) count h ((markAt n ds ns bs ss p) .id) (has-self ((markAt n ds ns bs ss p) .id) (ids (view n p ds ns bs ss)))
+  has-at count p h = down-has (markAt n ds ns bs ss) count p h
 
   -- A mark is not among those before its place.
   pub not-before : (count p q : ℕ) → Sound (view n count ds ns bs ss) → p < count → q ≤ p → T (has ((markAt n ds ns bs ss p) .id) (ids (view n q ds ns bs ss))) → ⊥

@@ -20,6 +20,7 @@ use Rattle.rows.specs.View.{Carried, Named, markAt, rowAt, rowFn, view}
 use Rattle.rows.proofs.ByRows.{row-at, under-cong}
 use Rattle.causality.specs.inner.Upto.{someReached}
 use Rattle.causality.proofs.Upto.{any-more, any-yes}
+use Rattle.rows.proofs.Down.{down-all, down-last, down-split}
 
 -- The first j of a row's n counts are those of f, the later ones are as at the start.
 pub record Passed (n : ℕ) (f : ℕ → ℕ) (r₀ r : List ℕ) (j : ℕ) : Type 0 where
@@ -88,8 +89,7 @@ named-less n count ds p f h q l = f q (omega arith)
 -- Marks of named desks.
 pub named-desks : (n count : ℕ) (ds ns : List ℕ) (bs : ℕ → Carried) (ss : List ℕ) → Named n count ds → All (λ m. (1 ≤ m .id .desk) × (m .id .desk ≤ n)) (view n count ds ns bs ss)
 unfolding view Named
-named-desks n zero ds ns bs ss f = tt
-named-desks n (suc k) ds ns bs ss f = (f k (omega arith), named-desks n k ds ns bs ss (λ p l. f p (omega arith)))
+named-desks n count ds ns bs ss f = down-all (markAt n ds ns bs ss) (λ m. (1 ≤ m .id .desk) × (m .id .desk ≤ n)) count f
 
 all-take : (P : Mark → Type 0) (k : ℕ) (l : List Mark) → All P l → All P (take k l)
 all-take P zero l a = tt
@@ -113,8 +113,7 @@ module _ (n : ℕ) (ds ns : List ℕ) (bs : ℕ → Carried) (ss : List ℕ) whe
   -- The mark at the last place stands in front.
   pub view-last : (k : ℕ) → 0 < k → view n k ds ns bs ss ≡ markAt n ds ns bs ss (k - 1) ∷ view n (k - 1) ds ns bs ss
   unfolding view
-  view-last zero h = let z : ⊥ = omega arith in absurd z
-  view-last (suc k) h = rw (sub-one (suc k)) refl
+  view-last k h = down-last (markAt n ds ns bs ss) k h
 
   -- So it does of the marks from a place before it on.
   pub last-between : (k to : ℕ) → to < k → take (k - to) (view n k ds ns bs ss) ≡ markAt n ds ns bs ss (k - 1) ∷ take (k - 1 - to) (view n (k - 1) ds ns bs ss)
@@ -125,15 +124,7 @@ module _ (n : ℕ) (ds ns : List ℕ) (bs : ℕ → Carried) (ss : List ℕ) whe
   -- The marks from a place on, then those before it, are all.
   split-view : (k to : ℕ) → to ≤ k → take (k - to) (view n k ds ns bs ss) ++ view n to ds ns bs ss ≡ view n k ds ns bs ss
   unfolding view
-  split-view zero to h = let e : to ≡ 0 = omega arith in rw e refl
-  split-view (suc k) to h = ⊎-elim here (λ q. later q (split-view k to (omega arith))) (eq-or-lt-of-le {n = to} {m = suc k} h)
-    where
-      here : to ≡ suc k → take (suc k - to) (view n (suc k) ds ns bs ss) ++ view n to ds ns bs ss ≡ view n (suc k) ds ns bs ss
-      here q = let e : suc k - to ≡ 0 = omega arith in rw e (ap (λ (x : ℕ). view n x ds ns bs ss) q)
-
-      later : to < suc k → take (k - to) (view n k ds ns bs ss) ++ view n to ds ns bs ss ≡ view n k ds ns bs ss
-          → take (suc k - to) (view n (suc k) ds ns bs ss) ++ view n to ds ns bs ss ≡ view n (suc k) ds ns bs ss
-      later q t = let e : suc k - to ≡ suc (k - to) = omega arith in rw e (ap (λ (l : List Mark). markAt n ds ns bs ss k ∷ l) t)
+  split-view k to h = down-split (markAt n ds ns bs ss) k to h
 
   module _ (s : ℕ → ℕ) where
     -- A mark in front of others is covered, and its row is joined.

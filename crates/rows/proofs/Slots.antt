@@ -1,6 +1,6 @@
 -- Slots of arrays that hold marks: unused ones are zero, a mark is read from one, and one mark more is stored. w: how many counts a row has. Assumes nothing.
 use Prim.Native.Nat.{_*_, _+_, _-_, _<_, _≤_, suc, zero, ℕ}
-use lib.ListN.{getD, length, length-replicate, length-set, replicate, set}
+use lib.ListN.{getD, length-replicate, length-set, replicate, set}
 use lib.Seq.{getD-set-other, getD-set-same}
 use mathlib.Core.List.{List, _∷_}
 use mathlib.Core.Logic.{inl}
@@ -8,15 +8,14 @@ use mathlib.Core.Path.{_∙_, _≡_, refl, subst}
 use native.Mathlib.Nat.{mul-le-mul-right, suc-mul}
 use native.Mathlib.Numerals.{add-one}
 use native.Mathlib.Omega.{arith}
-use Rattle.frame.specs.Mark.{MarkId}
-use Rattle.frame.specs.declared.MarkBox.{MarkBox}
 use Rattle.causality.specs.Rows.{entriesOfRow}
 use Rattle.rows.specs.declared.Held.{Held}
 use Rattle.rows.specs.Steps.{HasSlot, Stored}
-use Rattle.rows.specs.View.{Carried, SameOutside, Slots, ZeroFrom, boxAt, carriedAt, heldId, heldMark, markAt, pastFrom, rowAt, rowFn, view, width}
-use Rattle.rows.proofs.Arrays.{view-push}
+use Rattle.rows.specs.View.{Carried, SameOutside, Slots, ZeroFrom, carriedAt, heldMark, markAt, pastFrom, rowAt, rowFn, view, width}
+use Rattle.rows.proofs.Arrays.{mark-same}
 use Rattle.rows.proofs.ByRows.{entries-cong}
 use Rattle.rows.proofs.Stores.{boxes-below, outside-none, outside-set, zero-after}
+use Rattle.rows.proofs.Down.{down-cong}
 
 -- ARRAYS OF ZEROS
 
@@ -61,37 +60,36 @@ mark-read w ds ns bs ss p b row q f =
 outside-one : (xs : List ℕ) (k v : ℕ) → SameOutside xs (set xs k v) k 1
 outside-one xs k v = outside-set xs k 1 xs k v (outside-none xs k 1) (omega arith) (omega arith)
 
--- What is carried below a place is as it was.
-pub carried-below : (bs ps bs′ : List ℕ) (count v : ℕ) → SameOutside bs bs′ (count * 4) 4 → (p : ℕ) → p < count → carriedAt bs′ (set ps count v) p ≡ carriedAt bs ps p
-carried-below bs ps bs′ count v ob p l =
-    let b = boxes-below bs bs′ count ob p l in
-    let e = (outside-one ps count v) .same p (inl l) in
-    λ i. record { extent = b i; past = pastFrom (e i) }
-
-pushed : (w count : ℕ) (ds ns bs ps ss bs′ ss′ : List ℕ) (i : MarkId) (b : MarkBox) (v : ℕ) (row : List ℕ) → count < length ds → count < length ns → count < length ps
-    → SameOutside bs bs′ (count * 4) 4 → boxAt bs′ count ≡ b → SameOutside ss ss′ (count * w) w → ((j : ℕ) → j < w → getD ss′ (count * w + j) 0 ≡ getD row j 0)
-    → view w (suc count) (set ds count (i .desk)) (set ns count (i .number)) (carriedAt bs′ (set ps count v)) ss′
-    ≡ record { id = i; extent = b; stamp = entriesOfRow w (rowFn row); past = pastFrom v } ∷ view w count ds ns (carriedAt bs ps) ss
-pushed w count ds ns bs ps ss bs′ ss′ i b v row ld ln lp ob eb os er =
-    let ep = getD-set-same ps count v 0 lp in
-    view-push w count ds ns (carriedAt bs ps) ss (set ds count (i .desk)) (set ns count (i .number)) (carriedAt bs′ (set ps count v)) ss′
-    (record {
-      desks = λ p q. (outside-one ds count (i .desk)) .same p (inl q);
-      numbers = λ p q. (outside-one ns count (i .number)) .same p (inl q);
-      boxes = carried-below bs ps bs′ count v ob;
-      stamps = λ q m. os .same q (inl m);
-    }) i (record { extent = b; past = pastFrom v }) row (getD-set-same ds count (i .desk) 0 ld) (getD-set-same ns count (i .number) 0 ln)
-    (λ k. record { extent = eb k; past = pastFrom (ep k) }) er
+-- A mark stored in slot k leaves those below.
+pub stored-below : (k : ℕ) (h : Held) (ds ns bs ps ss ds′ ns′ bs′ ps′ ss′ : List ℕ) → Stored k h ds ns bs ps ss ds′ ns′ bs′ ps′ ss′ → (p : ℕ) → p < k
+    → markAt width ds′ ns′ (carriedAt bs′ ps′) ss′ p ≡ markAt width ds ns (carriedAt bs ps) ss p
+stored-below k h ds ns bs ps ss ds′ ns′ bs′ ps′ ss′ x p l =
+    let b = boxes-below bs bs′ k (x .boxes) p l in
+    let e : getD ps′ p 0 ≡ getD ps p 0 = rw (x .pasts) ((outside-one ps k (h .past)) .same p (inl l)) in
+    mark-same width ds ns (carriedAt bs ps) ss ds′ ns′ (carriedAt bs′ ps′) ss′ p p
+    (rw (x .desks) ((outside-one ds k (h .desk)) .same p (inl l))) (rw (x .numbers) ((outside-one ns k (h .number .0)) .same p (inl l)))
+    (λ i. record { extent = b i; past = pastFrom (e i) }) (λ j m. let f = row-fits width p k l in x .stamps .same (p * width + j) (inl (omega arith)))
 
 module _ (n count : ℕ) (h : Held) (ds ns bs ps ss ds′ ns′ bs′ ps′ ss′ : List ℕ) (s : Slots n count ds ns bs ps ss) (room : count < n)
     (x : Stored count h ds ns bs ps ss ds′ ns′ bs′ ps′ ss′) where
-  pub stored-view : view width (count + 1) ds′ ns′ (carriedAt bs′ ps′) ss′ ≡ heldMark h ∷ view width count ds ns (carriedAt bs ps) ss
-  stored-view =
+  -- It stands there.
+  stored-mark : markAt width ds′ ns′ (carriedAt bs′ ps′) ss′ count ≡ heldMark h
+  stored-mark =
       let a = s .desks .long in
       let b = s .numbers .long in
       let c = s .pasts .long in
-      rw (x .desks, x .numbers, x .pasts, add-one count) (pushed width count ds ns bs ps ss bs′ ss′ (heldId h) (h .extent) (h .past) (h .row) (omega arith) (omega arith) (omega arith)
-      (x .boxes) (x .extent) (x .stamps) (x .row))
+      let d : getD ds′ count 0 ≡ h .desk = rw (x .desks) (getD-set-same ds count (h .desk) 0 (omega arith)) in
+      let m : getD ns′ count 0 ≡ h .number .0 = rw (x .numbers) (getD-set-same ns count (h .number .0) 0 (omega arith)) in
+      let p : getD ps′ count 0 ≡ h .past = rw (x .pasts) (getD-set-same ps count (h .past) 0 (omega arith)) in
+      let e = entries-cong width (rowAt width ss′ count) (rowFn (h .row)) (λ k lo hi. x .row (k - 1) (omega arith)) in
+      let b′ = x .extent in
+      λ i. record { id = record { desk = d i; number = m i }; extent = b′ i; stamp = e i; past = pastFrom (p i) }
+
+  pub stored-view : view width (count + 1) ds′ ns′ (carriedAt bs′ ps′) ss′ ≡ heldMark h ∷ view width count ds ns (carriedAt bs ps) ss
+  unfolding view
+  stored-view =
+      let v = down-cong (markAt width ds′ ns′ (carriedAt bs′ ps′) ss′) (markAt width ds ns (carriedAt bs ps) ss) count (stored-below count h ds ns bs ps ss ds′ ns′ bs′ ps′ ss′ x) in
+      rw (add-one count) (λ i. stored-mark i ∷ v i)
 
   pub stored-slots : Slots n (count + 1) ds′ ns′ bs′ ps′ ss′
   stored-slots = record {

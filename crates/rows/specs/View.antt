@@ -59,13 +59,17 @@ pub record Carried : Type 0 where
 abbrev pub carriedAt : List ℕ → List ℕ → ℕ → Carried
 carriedAt bs ps p = record { extent = boxAt bs p; past = pastFrom (getD ps p 0) }
 
--- The name at a place, and the first so many names, newest first.
+-- The first k of what stands at places 0, 1, .., newest first.
+abbrev pub downFrom : {A : Type 0} → (ℕ → A) → ℕ → List A
+downFrom f zero = []
+downFrom f (suc k) = f k ∷ downFrom f k
+
+-- The name at a place, and the first so many names.
 abbrev pub nameAt : List ℕ → List ℕ → ℕ → MarkId
 nameAt ds ns p = record { desk = getD ds p 0; number = getD ns p 0 }
 
 abbrev pub namesDown : ℕ → List ℕ → List ℕ → List MarkId
-namesDown zero ds ns = []
-namesDown (suc k) ds ns = nameAt ds ns k ∷ namesDown k ds ns
+namesDown k ds ns = downFrom (nameAt ds ns) k
 
 -- The mark at place p: desks, numbers, what is carried by place, stamps.
 abbrev pub markAt : ℕ → List ℕ → List ℕ → (ℕ → Carried) → List ℕ → ℕ → Mark
@@ -76,10 +80,9 @@ markAt n ds ns bs ss p = record {
   past = bs p .past;
 }
 
--- The first so many of them, newest first.
+-- The first so many of them.
 unfoldable pub view : ℕ → ℕ → List ℕ → List ℕ → (ℕ → Carried) → List ℕ → List Mark
-view n zero ds ns bs ss = []
-view n (suc p) ds ns bs ss = markAt n ds ns bs ss p ∷ view n p ds ns bs ss
+view n count ds ns bs ss = downFrom (markAt n ds ns bs ss) count
 
 -- Each of the first so many marks is of a desk from 1 to n.
 unfoldable pub Named : ℕ → ℕ → List ℕ → Type 0

@@ -7,14 +7,15 @@ use Rattle.frame.specs.Mark.{desks}
 use Rattle.causality.specs.Marks.{All, places, waitingPlaces}
 use Rattle.causality.proofs.Fit.{Fit}
 use Rattle.causality.proofs.Kept.{Kept as KeptState, kept}
-use Rattle.causality.proofs.Reach.{ReachState, Sound}
+use Rattle.causality.proofs.Reach.{Sound}
 use Rattle.rows.specs.View.{Named, carriedAt, width}
 use Rattle.executed.specs.Rows.{Lent}
 use Rattle.executed.proofs.Chain.{lent-of}
 use Rattle.executed.specs.Arrays.{Arrays}
 use Rattle.waiting.specs.declared.Waiting.{Waiting}
 use Rattle.verdict.specs.Kept.{KeptIn, stateIn}
-use Rattle.rows.proofs.Arrays.{view-at, view-length}
+use Rattle.rows.proofs.Arrays.{view-length}
+use Rattle.waiting.proofs.UseLaws.{fit-named as named-slots}
 
 -- As many marks as the counts say.
 module _ (own : ℕ) (a : Arrays) (q : Waiting) where
@@ -26,23 +27,16 @@ module _ (own : ℕ) (a : Arrays) (q : Waiting) where
 
   -- Marks that a frame can carry are of desks 1 to the width.
   pub fit-named : All (Fit desks) ((stateIn own a q) .executed) → Named width (a .count) (a .desks)
-  unfolding Named
-  fit-named e p l = let f = view-at width (Fit desks) (a .count) (a .desks) (a .numbers) (carriedAt (a .boxes) (a .pasts)) (a .stamps) e p l in (f .range .low, f .range .high)
+  fit-named = named-slots width (a .count) (a .desks) (a .numbers) (carriedAt (a .boxes) (a .pasts)) (a .stamps)
 
   pub kept-state : KeptIn own a q → KeptState desks (omega arith) (stateIn own a q)
   kept-state k = kept desks (omega arith) (k .from)
-
-  pub kept-reach : KeptIn own a q → ReachState (stateIn own a q)
-  kept-reach k = kept-state k .reach
 
   pub kept-sound : KeptIn own a q → Sound ((stateIn own a q) .executed)
   kept-sound k = kept-state k .reach .sound
 
   pub kept-fit : KeptIn own a q → All (Fit desks) ((stateIn own a q) .executed)
   kept-fit k = kept-state k .executed
-
-  pub kept-waiting-fit : KeptIn own a q → All (Fit desks) ((stateIn own a q) .waiting)
-  kept-waiting-fit k = kept-state k .waiting
 
   pub kept-named : KeptIn own a q → Named width (a .count) (a .desks)
   kept-named k = fit-named (kept-fit k)

@@ -1,6 +1,6 @@
 -- Lists of marks by slot, newest first: one slot taken out. Nothing here knows how a slot is laid out. Assumes nothing.
 use Prim.Native.Nat.{_-_, _<_, _≤_, suc, zero, ℕ}
-use lib.Dec.{T}
+use lib.Dec.{T, not-T}
 use mathlib.Core.Bool.{Bool, _||_, false, true}
 use mathlib.Core.List.{List, [], _∷_}
 use mathlib.Core.Logic.{⊎-elim}
@@ -10,19 +10,10 @@ use native.Mathlib.Omega.{arith}
 use Rattle.frame.specs.Mark.{MarkId}
 use Rattle.causality.specs.Marks.{has, same, without}
 use Rattle.causality.specs.State.{Mark, ids, markId}
-use Rattle.causality.proofs.Logic.{T→eq, bool-ext, same-refl, same→eq}
-use Rattle.rows.specs.View.{Carried, markAt, view}
+use Rattle.causality.proofs.Logic.{T→eq, bool-ext, same-refl, same→eq, nT→eq}
+use Rattle.rows.specs.View.{Carried, markAt, view, downFrom}
 use Rattle.waiting.specs.Queue.{Distinct, takenOut}
-
--- The marks of the first so many slots, newest first.
-abbrev pub listOf : (ℕ → Mark) → ℕ → List Mark
-listOf m zero = []
-listOf m (suc p) = m p ∷ listOf m p
-
-pub view-list : (n k : ℕ) (ds ns : List ℕ) (bs : ℕ → Carried) (ss : List ℕ) → view n k ds ns bs ss ≡ listOf (markAt n ds ns bs ss) k
-unfolding view
-view-list n zero ds ns bs ss = refl
-view-list n (suc k) ds ns bs ss = ap (λ (xs : List Mark). markAt n ds ns bs ss k ∷ xs) (view-list n k ds ns bs ss)
+use Rattle.rows.proofs.Down.{down-cong, down-has}
 
 pub or-fst : (a b : Bool) → (a || b) ≡ false → a ≡ false
 or-fst true b e = e
@@ -46,20 +37,17 @@ without-absent a (x ∷ xs) e =
     rw (h, without) (ap (λ (ys : List Mark). x ∷ ys) (without-absent a xs (or-snd (same a (x .id)) (has a (ids xs)) e)))
 
 module _ (m : ℕ → Mark) where
-  has-at : (a : MarkId) (k i : ℕ) → has a (ids (listOf m k)) ≡ false → i < k → same a ((m i) .id) ≡ false
-  has-at a zero i e h = let z : ⊥ = omega arith in absurd z
-  has-at a (suc k) i e h = ⊎-elim
-      (λ x. ap (λ (j : ℕ). same a ((m j) .id)) x ∙ or-fst (same a ((m k) .id)) (has a (ids (listOf m k))) e)
-      (λ x. has-at a k i (or-snd (same a ((m k) .id)) (has a (ids (listOf m k))) e) x) (eq-or-lt-of-le {n = i} {m = k} (omega arith))
+  has-at : (a : MarkId) (k i : ℕ) → has a (ids (downFrom m k)) ≡ false → i < k → same a ((m i) .id) ≡ false
+  has-at a k i e h = nT→eq (same a ((m i) .id)) (not-T (same a ((m i) .id)) (λ t. subst T e (rw (same→eq a ((m i) .id) t) (down-has m k i h))))
 
   -- The mark of slot i goes by its name, where no other has that.
-  newest : (i k : ℕ) → i ≡ k → Distinct (listOf m (suc k)) → takenOut (k - i) (listOf m (suc k)) ≡ without markId ((m i) .id) (listOf m (suc k))
+  newest : (i k : ℕ) → i ≡ k → Distinct (downFrom m (suc k)) → takenOut (k - i) (downFrom m (suc k)) ≡ without markId ((m i) .id) (downFrom m (suc k))
   newest i k x d =
       let z : k - i ≡ 0 = omega arith in
       let s = ap (λ (j : ℕ). same ((m j) .id) ((m k) .id)) x ∙ T→eq (same ((m k) .id) ((m k) .id)) (same-refl ((m k) .id)) in
-      rw (z, s, without) (sym (without-absent ((m i) .id) (listOf m k) (ap (λ (j : ℕ). has ((m j) .id) (ids (listOf m k))) x ∙ d .0)))
+      rw (z, s, without) (sym (without-absent ((m i) .id) (downFrom m k) (ap (λ (j : ℕ). has ((m j) .id) (ids (downFrom m k))) x ∙ d .0)))
 
-  without-taken : (i k : ℕ) → i ≤ k → Distinct (listOf m (suc k)) → takenOut (k - i) (listOf m (suc k)) ≡ without markId ((m i) .id) (listOf m (suc k))
+  without-taken : (i k : ℕ) → i ≤ k → Distinct (downFrom m (suc k)) → takenOut (k - i) (downFrom m (suc k)) ≡ without markId ((m i) .id) (downFrom m (suc k))
   without-taken i zero l d = newest i zero (omega arith) d
   without-taken i (suc k) l d = ⊎-elim (λ x. newest i (suc k) x d)
       (λ x.
@@ -69,14 +57,10 @@ module _ (m : ℕ → Mark) where
       rw (z, s, without) (ap (λ (ys : List Mark). m (suc k) ∷ ys) (without-taken i k q (d .1)))) (eq-or-lt-of-le {n = i} {m = suc k} l)
 
   module _ (m′ : ℕ → Mark) where
-    list-same : (k : ℕ) → ((p : ℕ) → p < k → m′ p ≡ m p) → listOf m′ k ≡ listOf m k
-    list-same zero f = refl
-    list-same (suc k) f = let e = f k (omega arith) in let r = list-same k (λ p h. f p (omega arith)) in λ i. e i ∷ r i
-
-    taken : (i k : ℕ) → i ≤ k → ((p : ℕ) → p < i → m′ p ≡ m p) → ((p : ℕ) → i ≤ p → p < k → m′ p ≡ m (suc p)) → listOf m′ k ≡ takenOut (k - i) (listOf m (suc k))
+    taken : (i k : ℕ) → i ≤ k → ((p : ℕ) → p < i → m′ p ≡ m p) → ((p : ℕ) → i ≤ p → p < k → m′ p ≡ m (suc p)) → downFrom m′ k ≡ takenOut (k - i) (downFrom m (suc k))
     taken i zero l f g = let z : 0 - i ≡ 0 = omega arith in rw z refl
     taken i (suc k) l f g = ⊎-elim
-        (λ x. let z : suc k - i ≡ 0 = omega arith in rw z (list-same (suc k) (λ p h. f p (omega arith))))
+        (λ x. let z : suc k - i ≡ 0 = omega arith in rw z (down-cong m′ m (suc k) (λ p h. f p (omega arith))))
         (λ x.
         let z : suc k - i ≡ suc (k - i) = omega arith in
         let e = g k (omega arith) (omega arith) in
@@ -87,12 +71,11 @@ module _ (m : ℕ → Mark) where
 pub view-taken : (n i last : ℕ) (ds ns : List ℕ) (bs : ℕ → Carried) (ss ds′ ns′ : List ℕ) (bs′ : ℕ → Carried) (ss′ : List ℕ) → i ≤ last
     → ((p : ℕ) → p < i → markAt n ds′ ns′ bs′ ss′ p ≡ markAt n ds ns bs ss p) → ((p : ℕ) → i ≤ p → p < last → markAt n ds′ ns′ bs′ ss′ p ≡ markAt n ds ns bs ss (suc p))
     → view n last ds′ ns′ bs′ ss′ ≡ takenOut (last - i) (view n (suc last) ds ns bs ss)
-view-taken n i last ds ns bs ss ds′ ns′ bs′ ss′ l f g =
-    view-list n last ds′ ns′ bs′ ss′ ∙ taken (markAt n ds ns bs ss) (markAt n ds′ ns′ bs′ ss′) i last l f g ∙ ap (takenOut (last - i)) (sym (view-list n (suc last) ds ns bs ss))
+unfolding view
+view-taken n i last ds ns bs ss ds′ ns′ bs′ ss′ l f g = taken (markAt n ds ns bs ss) (markAt n ds′ ns′ bs′ ss′) i last l f g
 
 -- It goes by its name.
 pub view-without : (n i last : ℕ) (ds ns : List ℕ) (bs : ℕ → Carried) (ss : List ℕ) → i ≤ last → Distinct (view n (suc last) ds ns bs ss)
     → takenOut (last - i) (view n (suc last) ds ns bs ss) ≡ without markId ((markAt n ds ns bs ss i) .id) (view n (suc last) ds ns bs ss)
-view-without n i last ds ns bs ss l d =
-    let v = view-list n (suc last) ds ns bs ss in
-    ap (takenOut (last - i)) v ∙ without-taken (markAt n ds ns bs ss) i last l (rw v at d) ∙ ap (without markId ((markAt n ds ns bs ss i) .id)) (sym v)
+unfolding view
+view-without n i last ds ns bs ss l d = without-taken (markAt n ds ns bs ss) i last l d

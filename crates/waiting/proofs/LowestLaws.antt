@@ -13,13 +13,12 @@ use native.Mathlib.Omega.{arith}
 use Rattle.frame.specs.Mark.{MarkId}
 use Rattle.causality.specs.Marks.{lower, lowest}
 use Rattle.causality.specs.State.{Mark, markId, ready}
-use Rattle.rows.specs.View.{Carried, Named, markAt, placeAt, rowAt, rowFn, view}
+use Rattle.rows.specs.View.{Carried, Named, markAt, placeAt, rowAt, rowFn, view, downFrom}
 use Rattle.predecessors.specs.Steps.{missingBy}
 use Rattle.rows.proofs.ByRows.{entries-cong}
 use Rattle.predecessors.proofs.MissingLaws.{ready-by-tally}
 use Rattle.rows.proofs.RowSteps.{named-at}
 use Rattle.waiting.specs.Queue.{TallyOf, named}
-use Rattle.waiting.proofs.ListLaws.{listOf, view-list}
 
 lower-new : (h v : Mark) → h .id .desk ≤ v .id .desk → lower markId h (some v) ≡ h
 lower-new h v l = rw (le-ltb (v .id .desk) (h .id .desk) l, lower) refl
@@ -38,17 +37,17 @@ module _ (count : ℕ) (m : ℕ → Mark) where
   slot-none : (i : ℕ) → count ≤ i → slotOf i ≡ none
   slot-none i l = rw (le-ltb i count l, slotOf) refl
 
-  module _ (t : Mark → Bool) (b i : ℕ) (w : slotOf b ≡ lowest markId t (listOf m i)) where
-    chosen-taken : i < count → t (m i) ≡ true → (count ≤ b) ⊎ ((b < count) × ((m i) .id .desk ≤ (m b) .id .desk)) → slotOf i ≡ lowest markId t (listOf m (i + 1))
+  module _ (t : Mark → Bool) (b i : ℕ) (w : slotOf b ≡ lowest markId t (downFrom m i)) where
+    chosen-taken : i < count → t (m i) ≡ true → (count ≤ b) ⊎ ((b < count) × ((m i) .id .desk ≤ (m b) .id .desk)) → slotOf i ≡ lowest markId t (downFrom m (i + 1))
     chosen-taken l e o = slot-some i l ∙ sym (rw (add-one i, e, lowest, ← w) (ap some here))
       where
         here : lower markId (m i) (slotOf b) ≡ m i
         here = ⊎-elim (λ v. rw (slot-none b v) refl) (λ v. rw (slot-some b (v .0)) (lower-new (m i) (m b) (v .1))) o
 
-    chosen-kept : t (m i) ≡ true → b < count → (m b) .id .desk < (m i) .id .desk → slotOf b ≡ lowest markId t (listOf m (i + 1))
+    chosen-kept : t (m i) ≡ true → b < count → (m b) .id .desk < (m i) .id .desk → slotOf b ≡ lowest markId t (downFrom m (i + 1))
     chosen-kept e l h = let s = slot-some b l in s ∙ sym (rw (add-one i, e, lowest, ← w, s) (ap some (lower-old (m i) (m b) h)))
 
-    chosen-passed : t (m i) ≡ false → slotOf b ≡ lowest markId t (listOf m (i + 1))
+    chosen-passed : t (m i) ≡ false → slotOf b ≡ lowest markId t (downFrom m (i + 1))
     chosen-passed e = rw (add-one i, e, lowest) w
 
 module _ (n count : ℕ) (ds ns ss t : List ℕ) where
@@ -67,7 +66,7 @@ module _ (n count : ℕ) (ds ns ss t : List ℕ) where
     pub turns : i ≤ count
     pub few : b ≤ count
     pub desk : ((count ≤ b) × (n ≤ low)) ⊎ ((b < count) × (getD ds b 0 ≡ low))
-    pub chosen : (l : List Mark) (bs : ℕ → Carried) → TallyOf n l t → slotOf count (markAt n ds ns bs ss) b ≡ lowest markId (ready l) (listOf (markAt n ds ns bs ss) i)
+    pub chosen : (l : List Mark) (bs : ℕ → Carried) → TallyOf n l t → slotOf count (markAt n ds ns bs ss) b ≡ lowest markId (ready l) (downFrom (markAt n ds ns bs ss) i)
 
   pub lowering-none : (low : ℕ) → n ≤ low → Lowering count low 0
   lowering-none low m = record {
@@ -111,8 +110,8 @@ module _ (n count : ℕ) (ds ns ss t : List ℕ) where
     })
 
   pub lowering-all : (b low i : ℕ) → Lowering b low i → count ≤ i → (l : List Mark) (bs : ℕ → Carried) → TallyOf n l t → placeAt n count b ds ns bs ss ≡ lowest markId (ready l) (view n count ds ns bs ss)
-  unfolding placeAt
+  unfolding placeAt view
   lowering-all b low i w h l bs ts =
       let o = w .turns in
       let e : i ≡ count = omega arith in
-      w .chosen l bs ts ∙ ap (λ (k : ℕ). lowest markId (ready l) (listOf (markAt n ds ns bs ss) k)) e ∙ ap (lowest markId (ready l)) (sym (view-list n count ds ns bs ss))
+      w .chosen l bs ts ∙ ap (λ (k : ℕ). lowest markId (ready l) (downFrom (markAt n ds ns bs ss) k)) e

@@ -12,15 +12,15 @@ use native.Mathlib.Omega.{arith}
 use Rattle.frame.specs.declared.MarkBox.{MarkBox}
 use Rattle.causality.specs.Marks.{waitingPlaces}
 use Rattle.causality.proofs.Logic.{split}
-use Rattle.rows.specs.View.{SameOutside, ZeroFrom, boxAt, carriedAt, markAt, noBox, pastFrom, rowAt, view, width}
+use Rattle.rows.specs.View.{SameOutside, ZeroFrom, boxAt, carriedAt, markAt, noBox, pastFrom, view, width}
 use Rattle.rows.specs.Steps.{HasSlot, Stored}
 use Rattle.rows.specs.declared.Held.{Held}
-use Rattle.rows.proofs.Arrays.{SameBelow, view-same}
-use Rattle.rows.proofs.ByRows.{entries-cong}
-use Rattle.rows.proofs.Slots.{carried-below, has-slot, row-fits, zeros}
+use Rattle.rows.proofs.Arrays.{mark-same}
+use Rattle.rows.proofs.Slots.{has-slot, row-fits, stored-below, zeros}
 use Rattle.rows.proofs.Stores.{outside-none, outside-set}
 use Rattle.waiting.specs.Queue.{Closed, Queued, Removed, queueOf, takenOut}
 use Rattle.waiting.proofs.ListLaws.{view-taken, view-without}
+use Rattle.rows.proofs.Down.{down-cong}
 
 -- A GAP CLOSED, number by number
 
@@ -107,8 +107,7 @@ module _ (n : ℕ) (ds ns bs ps ss ds′ ns′ bs′ ps′ ss′ : List ℕ) whe
       let y = b 1 (omega arith) in
       let z = b 2 (omega arith) in
       let u = b 3 (omega arith) in
-      let t = entries-cong n (rowAt n ss′ p) (rowAt n ss q) (λ k lo hi. s (k - 1) (omega arith)) in
-      λ k. record { id = record { desk = d k; number = m k }; extent = record { start = x k; end = y k; low = z k; high = u k }; stamp = t k; past = pastFrom (c k) }
+      mark-same n ds ns (carriedAt bs ps) ss ds′ ns′ (carriedAt bs′ ps′) ss′ p q d m (λ k. record { extent = record { start = x k; end = y k; low = z k; high = u k }; past = pastFrom (c k) }) s
 
   module _ (i last : ℕ) (cd : Closed 1 ds ds′ i last) (cn : Closed 1 ns ns′ i last) (cb : Closed 4 bs bs′ (i * 4) (last * 4)) (cp : Closed 1 ps ps′ i last)
       (cs : Closed n ss ss′ (i * n) (last * n)) where
@@ -120,15 +119,6 @@ module _ (n : ℕ) (ds ns bs ps ss ds′ ns′ bs′ ps′ ss′ : List ℕ) whe
         (λ j x. slot-above 4 i last bs bs′ cb p j x a h) (cp .moved p a h ∙ ap (λ (q : ℕ). getD ps q 0) e) (λ j x. slot-above n i last ss ss′ cs p j x a h))
 
 -- THE MARK OF A SLOT GONE
-
--- A mark stored in slot k leaves those below.
-stored-below : (k : ℕ) (h : Held) (ds ns bs ps ss ds′ ns′ bs′ ps′ ss′ : List ℕ) → Stored k h ds ns bs ps ss ds′ ns′ bs′ ps′ ss′ → SameBelow width k ds ns (carriedAt bs ps) ss ds′ ns′ (carriedAt bs′ ps′) ss′
-stored-below k h ds ns bs ps ss ds′ ns′ bs′ ps′ ss′ x = record {
-  desks = λ p l. rw (x .desks) (getD-set-other ds k p (h .desk) 0 (λ z. omega arith));
-  numbers = λ p l. rw (x .numbers) (getD-set-other ns k p (h .number .0) 0 (λ z. omega arith));
-  boxes = λ p l. rw (x .pasts) (carried-below bs ps bs′ k (h .past) (x .boxes) p l);
-  stamps = λ q l. x .stamps .same q (inl l);
-}
 
 -- Nothing, as a slot has it.
 abbrev none : Held
@@ -152,11 +142,12 @@ closed-slot i count last ds ns bs ps ss md mn mb mp ms one u cd cn cb cp cs =
 pub removed : (i count last : ℕ) (ds ns bs ps ss md mn mb mp ms ds′ ns′ bs′ ps′ ss′ : List ℕ) → count ≡ last + 1 → i < count → Queued (queueOf count ds ns bs ps ss)
     → Closed 1 ds md i last → Closed 1 ns mn i last → Closed 4 bs mb (i * 4) (last * 4) → Closed 1 ps mp i last → Closed width ss ms (i * width) (last * width)
     → Stored last none md mn mb mp ms ds′ ns′ bs′ ps′ ss′ → Removed i (queueOf count ds ns bs ps ss) (queueOf last ds′ ns′ bs′ ps′ ss′)
+unfolding view
 removed i count last ds ns bs ps ss md mn mb mp ms ds′ ns′ bs′ ps′ ss′ one l u cd cn cb cp cs x =
     let f = u .few in
     let s = u .slots in
     let b : i ≤ last = omega arith in
-    let v = view-same width last md mn (carriedAt mb mp) ms ds′ ns′ (carriedAt bs′ ps′) ss′ (stored-below last none md mn mb mp ms ds′ ns′ bs′ ps′ ss′ x)
+    let v = down-cong (markAt width ds′ ns′ (carriedAt bs′ ps′) ss′) (markAt width md mn (carriedAt mb mp) ms) last (stored-below last none md mn mb mp ms ds′ ns′ bs′ ps′ ss′ x)
     ∙ closed-view width ds ns bs ps ss md mn mb mp ms i last cd cn cb cp cs b in
     record {
       one = one;

@@ -8,7 +8,7 @@ use Rattle.causality.specs.Marks.{All}
 use Rattle.causality.specs.State.{Mark}
 use Rattle.causality.proofs.Fit.{Fit}
 use Rattle.rows.specs.View.{Carried, Named, markAt, placeAt, view}
-use Rattle.rows.proofs.Arrays.{view-at}
+use Rattle.rows.proofs.Down.{down-at}
 
 module _ (n count : ℕ) (ds ns : List ℕ) (bs : ℕ → Carried) (ss : List ℕ) where
   -- A slot below the count has the mark, and the count has none.
@@ -22,5 +22,5 @@ module _ (n count : ℕ) (ds ns : List ℕ) (bs : ℕ → Carried) (ss : List �
 
   -- Marks that fit are of desks from 1 to n.
   pub fit-named : All (Fit n) (view n count ds ns bs ss) → Named n count ds
-  unfolding Named
-  fit-named a p l = let f = view-at n (Fit n) count ds ns bs ss a p l in (f .range .low, f .range .high)
+  unfolding Named view
+  fit-named a p l = let f = down-at (markAt n ds ns bs ss) (Fit n) count a p l in (f .range .low, f .range .high)

@@ -1,9 +1,10 @@
 -- `made_before` meets its contract. Invariant: down from place p no mark of the desk has been met.
 use Prim.Native.Nat.{_<_, _≤_}
 use borrow.Author.Needs.{needs}
+use mathlib.Core.Path.{refl}
 use native.Mathlib.Omega.{arith}
 use Rattle.causality.specs.Marks.{places}
-use Rattle.queries.proofs.MadeBefore.{NoneDown, made-all, made-met, made-none, none-more, none-yet}
+use Rattle.queries.proofs.MadeBefore.{NoneDown, made-all, made-met, made-none, none-more}
 use Rattle.queries.proofs.first_apart.made_before.Statement.{statement}
 use Rattle.queries.proofs.first_apart.made_before.Tie as tie
 
@@ -20,7 +21,7 @@ returns c =
     made-all _ _ _ _ _ _ (h .1) (h .2) (rw (t .before .before .wide .ensures) at (t .if1 .taken))
 
 loop-holds : tie.Need-loop-holds Inv-loop μ-loop
-loop-holds c = none-yet _ _ _ _
+loop-holds c = (search needs, refl)
 
 -- In the loop there is a place before that of the array's end.
 bound : (c : tie.In-loop Inv-loop μ-loop) → (0 < c .before .loop .q) × (c .before .loop .q ≤ places)
@@ -30,13 +31,17 @@ returns-2 : tie.Need-returns-2 Inv-loop μ-loop
 returns-2 c =
     let t = c .before in
     let i = t .before .before in
-    made-met _ _ _ _ _ _ _ (i .before .loop .inv) (i .loop-test .taken) (t .if2 .taken)
+    let a = i .before .before .before .before .before .before .args in
+    made-met (a .desks .now) (a .numbers .now) (a .tally .now) (a .last .now) (a .desk) (a .p .0) _ (i .before .loop .inv) (i .loop-test .taken) (t .if2 .taken)
 
 loop-again : tie.Need-loop-again Inv-loop μ-loop
-loop-again c = let i = c .before .before in none-more _ _ _ _ _ (i .before .loop .inv) (i .loop-test .taken) (c .if2 .left)
+loop-again c =
+    let i = c .before .before in
+    let a = i .before .before .before .before .before .before .args in
+    none-more (a .desks .now) (a .numbers .now) (a .desk) (a .p .0) _ (i .before .loop .inv) (i .loop-test .taken) (c .if2 .left)
 
 returns-3 : tie.Need-returns-3 Inv-loop μ-loop
-returns-3 c = made-none _ _ _ _ _ _ _ (c .before .loop .inv) (c .loop-test .left)
+returns-3 c = let a = c .before .before .before .before .before .before .args in made-none (a .desks .now) (a .numbers .now) (a .tally .now) (a .last .now) (a .desk) (a .p .0) _ (c .before .loop .inv) (c .loop-test .left)
 
 pub made-before-spec : {M : Type 1} → statement M
 made-before-spec =
