@@ -8,7 +8,7 @@ use lib.ListN.{length}
 use Rattle.frame.specs.Mark.{desks}
 use Rattle.causality.specs.Marks.{places, All, has, lowest}
 use Rattle.causality.specs.State.{Mark, markId, ids, ready}
-use Rattle.causality.specs.Calls.{Release, receiveMark, release}
+use Rattle.causality.specs.Calls.{receiveMark, release}
 use Rattle.causality.specs.Meaning.{reception}
 use Rattle.causality.specs.declared.Received.{Received}
 use Rattle.causality.proofs.Fit.{Fit}

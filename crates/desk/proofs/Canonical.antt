@@ -1,5 +1,5 @@
 -- Unused slots are zero, so two kept desks with the same marks are one value, and a refusal returns the very desk. Assumes nothing.
-use Prim.Native.Nat.{_*_, _+_, _-_, _<_, suc, zero, ℕ}
+use Prim.Native.Nat.{_*_, _+_, _<_, suc, zero, ℕ}
 use lib.Dec.{ltb, ltb→lt, nltb→le}
 use lib.ListN.{getD, length}
 use lib.Seq.{ext-getD}

@@ -3,7 +3,7 @@ use Prim.Native.Nat.{_≤_, ℕ}
 use lib.ListN.{length}
 use mathlib.Core.List.{List, [], _++_, _∷_}
 use mathlib.Core.Path.{_≡_}
-use Rattle.frame.specs.Mark.{MarkId, desks}
+use Rattle.frame.specs.Mark.{MarkId}
 use Rattle.causality.specs.Evidence.{evidence, evidencePairs}
 use Rattle.causality.specs.Marks.{All}
 use Rattle.causality.specs.State.{Mark, State, markId}
@@ -48,7 +48,3 @@ pub evidence-holds : (N : ℕ) → EvidenceHolds N
 evidence-holds N s at d t a b lent =
     let p = some-desk N d t in
     rw (same-run N p s at) (proved-by N p s at d a b lent)
-
--- At the document's count of desks.
-pub evidence-holds-ours : EvidenceHolds desks
-evidence-holds-ours = evidence-holds desks

@@ -7,7 +7,7 @@ use mathlib.Core.Option.{Option, none, some}
 use mathlib.Core.Path.{_∙_, _≡_, ap, refl, subst, sym}
 use Rattle.frame.specs.declared.MarkBox.{MarkBox}
 use Rattle.frame.specs.Frame.{entriesOf, readEntries}
-use Rattle.frame.specs.Mark.{MarkId, desks, isDesk}
+use Rattle.frame.specs.Mark.{MarkId, isDesk}
 use Rattle.causality.specs.Calls.{FromCalls, Later, begun, mark, marked, newMark, receive, received}
 use Rattle.causality.specs.Marks.{All, has}
 use Rattle.causality.specs.Silent.{FollowedHere}
@@ -118,7 +118,3 @@ silent-desk-leaves N s at x d tx p b lent =
     let leaves = silent-leaves-later N sd (run-from N x (p .earlier)) d (p .m) (alike N (p .earlier) before x tx d (p .m) .0 (p .followed)) st later
     (record { silent = λ a t q. in-state N (p .earlier) before x tx a (p .until .silent a (in-list N s at x tx a t) q) }) in
     all-map (λ f e. rw e (leaves .stamp b)) (written x ((mark N st b lent) .answer) ((mark N st b lent) .bytes) []) (mark-writes N sd st b lent x (kept N sd (run-from N x s)))
-
--- At the document's count of desks.
-pub silent-desk-leaves-ours : SilentDeskLeaves desks
-silent-desk-leaves-ours = silent-desk-leaves desks

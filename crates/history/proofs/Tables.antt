@@ -5,7 +5,7 @@ use lib.ListN.{length}
 use mathlib.Core.List.{List}
 use mathlib.Core.Path.{_≡_, refl}
 use Rattle.frame.specs.Frame.{overIf}
-use Rattle.frame.specs.Mark.{MarkId, desks, isDesk}
+use Rattle.frame.specs.Mark.{MarkId, isDesk}
 use Rattle.causality.specs.Marks.{has}
 use Rattle.causality.specs.State.{State, concurrent, ids, precedes}
 use Rattle.causality.specs.Tables.{pairTables, pairTablesCounts, pairsApart, pairsBefore, tables}
@@ -45,7 +45,3 @@ module _ (N : ℕ) (s : List Step) (at : AtDesks N s) (x : ℕ) (tx : T (isDesk 
 
 pub pairs-hold : (N : ℕ) → PairsHold N
 pairs-hold N s at x tx = pairs-of-history N s at x tx
-
--- At the document's count of desks.
-pub pairs-hold-ours : PairsHold desks
-pairs-hold-ours = pairs-hold desks

@@ -1,17 +1,17 @@
 -- The converter by its ways out, from what the code found there. Assumes nothing.
 use Prim.Native.Nat.{suc, zero, ℕ}
 use lib.ListN.{length}
-use mathlib.Core.Bool.{Bool, false, not, true}
+use mathlib.Core.Bool.{false, true}
 use mathlib.Core.List.{List}
-use mathlib.Core.Option.{Option, none, some}
-use mathlib.Core.Path.{_∙_, _≡_, ap, refl, subst, sym}
+use mathlib.Core.Option.{none, some}
+use mathlib.Core.Path.{_∙_, _≡_, ap, refl, sym}
 use Rattle.frame.specs.declared.Fields.{Fields}
 use Rattle.frame.specs.declared.Past.the-variants.{Unsaid}
 use Rattle.frame.specs.declared.Refusal.{Refusal}
 use Rattle.frame.specs.declared.Refusal.the-variants.{NotExecuted, OtherFields, SameEdition}
 use Rattle.frame.specs.declared.Writing.{Writing}
 use Rattle.frame.specs.declared.Writing.the-variants.{Refused as NotWritten}
-use Rattle.frame.specs.Answer.{Answer, gives, numberOf, refuseIf, refused}
+use Rattle.frame.specs.Answer.{Answer, gives, numberOf, refused}
 use Rattle.frame.specs.Frame.{overIf, readFields, writing}
 use Rattle.frame.specs.Mark.{desks}
 use Rattle.causality.specs.Calls.{andThen, frameAgainBytes, frameAgainSize, frameOfMark, isSaid, markIn, sameFields, sizeOfMark, toFirstBytes, toFirstMark, toFirstSize, toSecondBytes, toSecondMark, toSecondSize}

@@ -1,6 +1,6 @@
 -- Names of marks on flat numbers, and a run of pairs whose first are set to them.
 use mathlib.Core.Path.{_≡_}
-use mathlib.Core.List.{List, [], reverse}
+use mathlib.Core.List.{List, reverse}
 use Prim.Native.Nat.{ℕ, zero, suc}
 use lib.ListN.{getD, set}
 use Rattle.frame.specs.Answer.{Answer, gives, refused}

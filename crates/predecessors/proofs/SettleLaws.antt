@@ -4,7 +4,7 @@ use lib.Dec.{eqb, eqb-refl, eqb→eq, leb, leb→le, T-not}
 use lib.ListN.{getD, length-set, set}
 use lib.Seq.{getD-set-other, getD-set-same}
 use mathlib.Core.Bool.{Bool, false, true}
-use mathlib.Core.List.{List, []}
+use mathlib.Core.List.{List}
 use mathlib.Core.Logic.{inl, inr}
 use mathlib.Core.Path.{_∙_, _≡_, refl, subst, sym}
 use native.Mathlib.Numerals.{sub-one}

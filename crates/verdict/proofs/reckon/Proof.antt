@@ -1,21 +1,19 @@
 -- `reckon` meets its contract: the row of the trace tells whether the stamp is false, and its sum is the reckoning (JudgeLaws).
-use Prim.Native.Nat.{ℕ, suc, _≤_, _+_}
+use Prim.Native.Nat.{ℕ, _≤_, _+_}
 use mathlib.Core.Bool.{false}
 use mathlib.Core.List.{List, _∷_}
-use mathlib.Core.Path.{_≡_, _∙_, ap, refl, subst, sym}
+use mathlib.Core.Path.{_≡_, _∙_, ap, sym}
 use native.Mathlib.Numerals.{add-one}
 use native.Mathlib.Omega.{arith}
 use borrow.Author.Needs.{needs}
 use borrow.Author.Tests.{not-false, not-true}
 use lib.Dec.{T}
 use lib.ListN.{length-replicate}
-use Rattle.frame.specs.Mark.{MarkId}
-use Rattle.frame.specs.declared.Past.{Past}
 use Rattle.frame.specs.declared.Past.the-variants.{Said}
-use Rattle.causality.specs.Marks.{has, places, tally}
+use Rattle.causality.specs.Marks.{has, tally}
 use Rattle.causality.specs.State.{Mark, falseEntries, ids, ready, reckoning, sameCount}
 use Rattle.causality.proofs.Reach.{Sound}
-use Rattle.rows.specs.View.{Carried, heldId, heldMark, namesDown, pastFrom, view, width}
+use Rattle.rows.specs.View.{Carried, heldId, heldMark, pastFrom, view, width}
 use Rattle.rows.proofs.Places.{ids-names}
 use Rattle.predecessors.specs.Steps.{greaterSum}
 use Rattle.predecessors.proofs.OldestLaws.{oldest-before}

@@ -3,11 +3,9 @@ use mathlib.Core.Logic.{⊎-elim}
 use mathlib.Core.Path.{_≡_, refl}
 use Prim.Native.Nat.{_+_, _<_, _≤_}
 use native.Mathlib.Omega.{arith}
-use borrow.Author.Needs.{needs}
 use Rattle.causality.specs.Marks.{waitingPlaces}
-use Rattle.executed.specs.Arrays.{Arrays, arrays}
+use Rattle.executed.specs.Arrays.{arrays}
 use Rattle.waiting.specs.Queue.{queueOf}
-use Rattle.waiting.specs.declared.Waiting.{Waiting}
 use Rattle.arrivals.proofs.Turning.{Releases, counts-dropped, counts-executed, held-named, releases-again, releases-ends, releases-few, releases-starts, releases-turns}
 use Rattle.arrivals.proofs.release.release.Statement.{statement}
 use Rattle.arrivals.proofs.release.release.Tie as tie

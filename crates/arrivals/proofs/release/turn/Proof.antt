@@ -1,12 +1,12 @@
 -- `turn` meets its contract: the mark of the slot is taken out, and dropped or executed by its stamp (Turning).
-use mathlib.Core.Path.{_≡_, _∙_, ap, sym}
+use mathlib.Core.Path.{_≡_}
 use native.Mathlib.Omega.{arith}
 use borrow.Author.Needs.{needs}
 use Rattle.causality.specs.Marks.{waitingPlaces}
-use Rattle.rows.specs.View.{carriedAt, heldMark, heldWith, pastFrom}
+use Rattle.rows.specs.View.{carriedAt, heldMark, pastFrom}
 use Rattle.rows.specs.declared.Held.{Held}
 use Rattle.rows.proofs.Slots.{has-slot}
-use Rattle.executed.specs.Arrays.{Arrays, Takes, executedIn, here}
+use Rattle.executed.specs.Arrays.{Arrays, executedIn, here}
 use Rattle.verdict.specs.Judgement.{pastKept}
 use Rattle.verdict.proofs.Judging.{kept-none, kept-some}
 use Rattle.arrivals.proofs.Turning.{mid-count, mid-named, turn-dropped-is, turn-executed-is, turn-fit, turn-is-ready, turn-ready, turn-takes}
