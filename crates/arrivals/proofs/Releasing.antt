@@ -1,18 +1,17 @@
 -- The release, turn by turn: what one turn does to the executed and the waiting marks. Assumes nothing.
-use Prim.Native.Nat.{_+_, _<_, suc, zero, ℕ}
+use Prim.Native.Nat.{_+_, _<_}
 use borrow.Author.Tests.{eqb-false}
 use lib.Dec.{T, T-not, not-T}
 use lib.ListN.{length}
 use mathlib.Core.Bool.{false, not, true}
 use mathlib.Core.List.{List, _∷_}
 use mathlib.Core.Logic.{inl, inr}
-use mathlib.Core.Option.{none, some}
+use mathlib.Core.Option.{some}
 use mathlib.Core.Path.{_≡_, refl}
 use native.Mathlib.Omega.{arith}
 use Rattle.frame.specs.declared.Past.the-variants.{Unsaid}
 use Rattle.frame.specs.Mark.{desks}
-use Rattle.causality.specs.Calls.{FromCalls, full, release, rules}
-use Rattle.causality.specs.Kinds.{releaseBy}
+use Rattle.causality.specs.Calls.{FromCalls, full, rules}
 use Rattle.causality.specs.Marks.{has, lowest, places, same, without}
 use Rattle.causality.specs.State.{Mark, State, falseStamp, ids, markId, ready, reckoned}
 use Rattle.causality.proofs.Cases.{Arrives}
@@ -23,18 +22,6 @@ use Rattle.causality.proofs.Logic.{or-cases, same-refl, same→eq}
 use Rattle.causality.proofs.Reach.{Sound, execute-reach, follows-of}
 use Rattle.waiting.proofs.DistinctLaws.{distinct-without, waiting-distinct}
 use Rattle.arrivals.specs.Steps.{Between}
-
-pub turn-executed : (l ws : List Mark) (turns k f : ℕ) (w : Mark) → lowest markId (ready l) ws ≡ some w → falseStamp l w ≡ false
-    → release (suc turns) l ws k f ≡ release turns (reckoned l w ∷ l) (without markId (w .id) ws) (suc k) f
-turn-executed l ws turns k f w e e′ = rw (e, releaseBy) (rw e′)
-
-pub turn-dropped : (l ws : List Mark) (turns k f : ℕ) (w : Mark) → lowest markId (ready l) ws ≡ some w → falseStamp l w ≡ true
-    → release (suc turns) l ws k f ≡ release turns l (without markId (w .id) ws) k (suc f)
-turn-dropped l ws turns k f w e e′ = rw (e, releaseBy) (rw e′)
-
-pub rests : (l ws : List Mark) (turns k f : ℕ) → lowest markId (ready l) ws ≡ none → release turns l ws k f ≡ record { executed = l; waiting = ws; k = k; f = f }
-rests l ws zero k f e = refl
-rests l ws (suc turns) k f e = rw (e, releaseBy)
 
 -- The ready waiting mark of lowest desk is w.
 module _ (l ws : List Mark) (w : Mark) (m : Between l ws) (e : lowest markId (ready l) ws ≡ some w) where

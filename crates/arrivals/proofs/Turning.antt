@@ -1,5 +1,5 @@
 -- The loop of the release over the arrays: one turn, and what is kept from turn to turn. Assumes nothing.
-use Prim.Native.Nat.{_+_, _<_, _≤_, suc, ℕ}
+use Prim.Native.Nat.{_+_, _-_, _<_, _≤_, suc, ℕ}
 use lib.Dec.{T}
 use lib.ListN.{length}
 use mathlib.Core.Bool.{Bool, false, true}
@@ -8,12 +8,13 @@ use mathlib.Core.Option.{some}
 use mathlib.Core.Path.{_∙_, _≡_, ap, sym}
 use native.Mathlib.Omega.{arith}
 use Rattle.frame.specs.Mark.{desks}
-use Rattle.causality.specs.Calls.{release}
+use Rattle.causality.specs.Calls.{release, rules}
 use Rattle.causality.specs.Marks.{has, lowest, places, tally, waitingPlaces, without}
 use Rattle.causality.specs.State.{Mark, falseStamp, ids, markId, ready, reckoned, withPast}
 use Rattle.causality.proofs.Fit.{Fit}
 use Rattle.causality.proofs.Logic.{nT→eq}
 use Rattle.causality.proofs.Reach.{sound-counted}
+use Rattle.causality.proofs.Releases.{release-drops, release-rests, release-runs}
 use Rattle.rows.specs.View.{Named, carriedAt, heldId, heldMark, heldWith, markAt, pastFrom, width}
 use Rattle.rows.specs.declared.Held.{Held}
 use Rattle.rows.proofs.Arrays.{view-length}
@@ -26,7 +27,7 @@ use Rattle.waiting.proofs.UseLaws.{fit-named, slot-found, slot-missed}
 use Rattle.verdict.specs.Judgement.{ReadyIn}
 use Rattle.arrivals.specs.declared.Released.{Released}
 use Rattle.arrivals.specs.Steps.{IsNext, Midway, ReleasePromise, Turned, Turns, droppedBy, executedBy}
-use Rattle.arrivals.proofs.Releasing.{between-dropped, between-executed, next-fit, next-fresh, next-ready, next-sound, rests, turn-dropped, turn-executed}
+use Rattle.arrivals.proofs.Releasing.{between-dropped, between-executed, next-fit, next-fresh, next-ready, next-sound}
 
 -- As many marks as the counts say.
 pub executed-many : (a : Arrays) → length (executedIn a) ≡ a .count
@@ -90,7 +91,7 @@ module _ (a : Arrays) (q : Waiting) (i : ℕ) (t : Turns a q i) (h : Held) (eh :
   turn-dropped-is e r x = let o = others r x in record {
     midway = record { between = rw o (between-dropped (executedIn a) (waitingIn q) (heldMark h) (m .between) chosen); ordered = m .ordered; queued = x .queued };
     one = x .one;
-    turn = λ turns k f. turn-dropped (executedIn a) (waitingIn q) turns k f (heldMark h) chosen e ∙ ap (λ (ws : List Mark). release turns (executedIn a) ws k (suc f)) (sym o);
+    turn = λ turns k f. release-drops rules turns (executedIn a) (waitingIn q) k f (heldMark h) chosen e ∙ ap (λ (ws : List Mark). release turns (executedIn a) ws k (suc f)) (sym o);
   }
 
   -- Its stamp is not false, and the past kept is the reckoning.
@@ -119,7 +120,7 @@ module _ (a : Arrays) (q : Waiting) (i : ℕ) (t : Turns a q i) (h : Held) (eh :
         record {
           midway = record { between = rw (l, o) (between-executed (executedIn a) (waitingIn q) (heldMark h) (m .between) chosen e); ordered = y .ordered; queued = x .queued };
           one = x .one;
-          turn = λ turns k f. turn-executed (executedIn a) (waitingIn q) turns k f (heldMark h) chosen e ∙ (λ j. release turns (sym l j) (sym o j) (suc k) f);
+          turn = λ turns k f. release-runs rules turns (executedIn a) (waitingIn q) k f (heldMark h) chosen e ∙ (λ j. release turns (sym l j) (sym o j) (suc k) f);
         }
 
 -- The counts after a turn.
@@ -172,5 +173,5 @@ module _ (a₀ : Arrays) (q₀ : Waiting) (a : Arrays) (q : Waiting) (i k f : �
     ordered = w .midway .ordered;
     queued = w .midway .queued;
     end = (λ j. record { executed = executedIn a; waiting = waitingIn q; k = ek j; f = ef j })
-        ∙ sym (rests (executedIn a) (waitingIn q) (q .count) k f (slot-missed width (q .count) (q .desks) (q .numbers) (carriedAt (q .boxes) (q .pasts)) (q .stamps) i _ (w .next) l)) ∙ w .end;
+        ∙ sym (release-rests rules (q .count) (executedIn a) (waitingIn q) k f (slot-missed width (q .count) (q .desks) (q .numbers) (carriedAt (q .boxes) (q .pasts)) (q .stamps) i _ (w .next) l)) ∙ w .end;
   }

@@ -19,6 +19,18 @@ module _ {A : Type 0} (R : Rules A) where
   abbrev pub others : A → List A → List A
   others w ws = without (R .nameOf) ((R .nameOf) w) ws
 
+  -- One turn, or none where none is ready.
+  pub release-rests : (turns : ℕ) (l ws : List A) (k f : ℕ) → lowest (R .nameOf) ((R .ready) l) ws ≡ none → releaseBy R turns l ws k f ≡ record { executed = l; waiting = ws; k = k; f = f }
+  release-rests zero l ws k f e = refl
+  release-rests (suc turns) l ws k f e = rw (e, releaseBy)
+
+  pub release-drops : (turns : ℕ) (l ws : List A) (k f : ℕ) (w : A) → Next l ws w → (R .falseStamp) l w ≡ true → releaseBy R (suc turns) l ws k f ≡ releaseBy R turns l (others w ws) k (suc f)
+  release-drops turns l ws k f w e t = rw (e, releaseBy) (rw t)
+
+  pub release-runs : (turns : ℕ) (l ws : List A) (k f : ℕ) (w : A) → Next l ws w → (R .falseStamp) l w ≡ false
+      → releaseBy R (suc turns) l ws k f ≡ releaseBy R turns ((R .reckoned) l w ∷ l) (others w ws) (suc k) f
+  release-runs turns l ws k f w e t = rw (e, releaseBy) (rw t)
+
   -- What holds of the executed and the waiting marks, k and f, and goes on holding as one is dropped or executed.
   module _ (P : List A → List A → ℕ → ℕ → Type 0)
       (drops : (l ws : List A) (k f : ℕ) (w : A) → P l ws k f → Next l ws w → P l (others w ws) k (suc f))

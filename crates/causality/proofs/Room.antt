@@ -1,11 +1,11 @@
--- Room, and the end of the release. Assumes nothing.
+-- Room, and that no waiting mark is ready. Assumes nothing.
 use Prim.Native.Nat.{_+_, _≤_, ℕ}
-use lib.Dec.{T, T-not, eqb, eqb-refl, leb, not-T}
+use lib.Dec.{T, T-not, leb, not-T}
 use lib.ListN.{length}
 use mathlib.Core.Bool.{Bool, _||_, false, not}
 use mathlib.Core.List.{List, [], _∷_}
 use mathlib.Core.Logic.{inl, inr}
-use mathlib.Core.Path.{_≡_, ap, refl, subst}
+use mathlib.Core.Path.{_≡_, ap, refl}
 use native.Mathlib.Omega.{arith}
 use Rattle.frame.specs.declared.MarkBox.{MarkBox}
 use Rattle.frame.specs.Answer.{Answer, gives, refused}
@@ -21,6 +21,7 @@ use Rattle.causality.proofs.Logic.{and-fst, and-intro, and-snd, or-case
 use Rattle.causality.proofs.Past.{prefix-le}
 use Rattle.causality.proofs.Reach.{ReachState, Wait, sound-counted}
 use Rattle.causality.proofs.Releases.{release-room, release-quiet}
+use borrow.Author.Tests.{eqb-false}
 
 pub record Room (l ws : List Mark) : Type 0 where
   pub total : length l + length ws ≤ places
@@ -37,19 +38,16 @@ pub receive-still : (d : State) (m : Mark) → StillState d → StillState ((rec
 unfolding executingBy full
 receive-still d m r = go (judge-case rules d m)
   where
-    neq : (x n : ℕ) → eqb x n ≡ false → x ≡ n → ⊥
-    neq x n e q = T-not (eqb x n) (rw e tt) (subst (λ (k : ℕ). T (eqb x k)) q (eqb-refl x))
-
     go : {j : Answer (Judgement Mark)} → JudgeCase rules d m j → StillState ((act d j) .state)
     go (to-refuse c) = r
     go to-know = r
     go (to-wait a b c) =
-        let n1 : ¬ (length (d .executed) + length (d .waiting) ≡ places) = neq (length (d .executed) + length (d .waiting)) places (a .room) in
-        let n2 : ¬ (length (d .waiting) ≡ waitingPlaces) = neq (length (d .waiting)) waitingPlaces c in
+        let n1 : ¬ (length (d .executed) + length (d .waiting) ≡ places) = eqb-false _ _ (a .room) in
+        let n2 : ¬ (length (d .waiting) ≡ waitingPlaces) = eqb-false _ _ c in
         let p = r .room .total in let q = r .room .few in
         record { room = record { total = omega arith; few = omega arith }; quiet = (rw b tt, r .quiet) }
     go (to-execute a b c) =
-        let n1 : ¬ (length (d .executed) + length (d .waiting) ≡ places) = neq (length (d .executed) + length (d .waiting)) places (a .room) in
+        let n1 : ¬ (length (d .executed) + length (d .waiting) ≡ places) = eqb-false _ _ (a .room) in
         let l = reckoned (d .executed) m ∷ d .executed in
         let x = release-room rules (length (d .waiting)) l (d .waiting) 1 0 in
         let p = r .room .total in let q = r .room .few in
@@ -88,7 +86,7 @@ mark-still N d box out re r = go (markAnswer N d box (length out)) refl
 
     new : full d ≡ false → Still (newMark d box ∷ l) (d .waiting)
     new e =
-        let n : ¬ (length l + length (d .waiting) ≡ places) = (λ q. T-not (eqb (length l + length (d .waiting)) places) (rw e tt) (subst (λ (k : ℕ). T (eqb (length l + length (d .waiting)) k)) q (eqb-refl (length l + length (d .waiting))))) in
+        let n : ¬ (length l + length (d .waiting) ≡ places) = eqb-false _ _ e in
         let p = r .room .total in
         record { room = record { total = omega arith; few = r .room .few }; quiet = both (d .waiting) (re .wait) (r .quiet) }
 

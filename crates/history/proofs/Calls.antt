@@ -14,8 +14,8 @@ use Rattle.frame.specs.Answer.{Answer, gives, refuseIf, refused}
 use Rattle.frame.specs.Frame.{overIf}
 use Rattle.frame.specs.Mark.{MarkId, boxRule}
 use Rattle.causality.specs.Answers.{Executed, Known, Numbered, Reception, Reply, knows}
-use Rattle.causality.specs.Calls.{Received, Release, act, admit, execute, frameOfMark, full, mark, markAnswer, newMark, receiveMark, release, sameFields, stateIf, unmade}
-use Rattle.causality.specs.Kinds.{admitBy, executingBy, judgeBy, markAnswerOf, markOf, releaseBy}
+use Rattle.causality.specs.Calls.{Received, Release, act, admit, execute, frameOfMark, full, mark, markAnswer, newMark, receiveMark, release, rules, sameFields, stateIf, unmade}
+use Rattle.causality.specs.Kinds.{admitBy, executingBy, judgeBy, markAnswerOf, markOf}
 use Rattle.causality.specs.Marks.{All, all, any, find, has, insert, keep, lowest, rising, same, tally, waitingPlaces, without}
 use Rattle.causality.specs.State.{Mark, State, falseStamp, heads, ids, isHead, markId, precedes, ready, reckoned, sameCount, withPast}
 use Rattle.causality.proofs.Fit.{Fit, fit-size, markSize}
@@ -25,6 +25,7 @@ use Rattle.causality.proofs.Logic.{or-cases, same-refl, same→eq}
 use Rattle.causality.proofs.Past.{Good, Standing, Stands, precedes-past, ready-past, ready-stands, tally-le}
 use Rattle.causality.proofs.Reckoning.{Once, not-false-stamp, reckoned-past, stands-with}
 use Rattle.causality.proofs.Images.{lowest-image, names-image, without-image}
+use Rattle.causality.proofs.Releases.{release-rests, release-runs}
 use Rattle.history.specs.Plain.{DeskLists, MadeMark, Outcome, executeReady, frameSize, handOver, isLast, leaveOut, listsFull, madeId, madeIds, making, makingBy, newMade, pastListed}
 use Rattle.history.specs.Run.{withoutMissing}
 
@@ -82,13 +83,6 @@ module _ (past : MarkId → List MarkId) where
       pub ok : Consistent (r .executed) (r .waiting)
       pub grows : (e : ℕ) → tally e (ids l) ≤ tally e (ids (r .executed))
 
-    release-none : (turns : ℕ) (l ws : List Mark) (k f : ℕ) → lowest markId (ready l) ws ≡ none → release (suc turns) l ws k f ≡ record { executed = l; waiting = ws; k = k; f = f }
-    release-none turns l ws k f e = rw (e, releaseBy)
-
-    release-some : (turns : ℕ) (l ws : List Mark) (k f : ℕ) (w : Mark) → lowest markId (ready l) ws ≡ some w → falseStamp l w ≡ false
-        → release (suc turns) l ws k f ≡ release turns (reckoned l w ∷ l) (without markId (w .id) ws) (suc k) f
-    release-some turns l ws k f w e e′ = rw (e, releaseBy) (rw e′)
-
     execute-none : (turns : ℕ) (l ws : List MadeMark) → lowest madeId (pastListed l) ws ≡ none → executeReady (suc turns) l ws ≡ record { listed = l; waiting = ws }
     execute-none turns l ws e = rw (e, executeReady)
 
@@ -135,13 +129,13 @@ module _ (past : MarkId → List MarkId) where
         go : (p : Option Mark) → lowest markId (ready l) ws ≡ p
             → ((l ws : List Mark) (k f : ℕ) → Consistent l ws → Released turns l ws k f (release turns l ws k f))
             → Released (suc turns) l ws k f (release (suc turns) l ws k f)
-        go none e ih = subst (Released (suc turns) l ws k f) (sym (release-none turns l ws k f e))
+        go none e ih = subst (Released (suc turns) l ws k f) (sym (release-rests rules (suc turns) l ws k f e))
             (record { sim = execute-none turns (map madeOf l) (map madeOf ws) (same-pick ∙ ap (Option·map madeOf) e); growth = refl; none-false = refl; ok = o; grows = λ e. omega arith })
         go (some w) e ih =
             let pk : Unlisted l w × T (ready l w) = lowest-picked markId (Unlisted l) (ready l) ws (o .lacks) w e in
             let nf : falseStamp l w ≡ false = no-false c l (o .hist) w (pk .0) (pk .1) in
             let r : Released turns (reckoned l w ∷ l) (without markId (w .id) ws) (suc k) f (release turns (reckoned l w ∷ l) (without markId (w .id) ws) (suc k) f) = ih (reckoned l w ∷ l) (without markId (w .id) ws) (suc k) f (ok-add c l (without markId (w .id) ws) (o .hist) (o .ks) w (pk .0) (pk .1) (without-all markId (Unlisted l) (w .id) ws (o .lacks))) in
-            subst (Released (suc turns) l ws k f) (sym (release-some turns l ws k f w e nf))
+            subst (Released (suc turns) l ws k f) (sym (release-runs rules turns l ws k f w e nf))
             (record {
               sim = execute-some turns (map madeOf l) (map madeOf ws) (madeOf w) (same-pick ∙ ap (Option·map madeOf) e) ∙ ap (λ (x : List MadeMark). executeReady turns (madeOf w ∷ map madeOf l) x) (without-image markId madeId madeOf made-named (w .id) ws) ∙ r .sim;
               growth = let g = r .growth in omega arith;
