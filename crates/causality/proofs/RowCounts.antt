@@ -66,12 +66,12 @@ sum-counts n r (i ∷ is) c f = go (leb (i .number) (r (i .desk))) refl (sum-cou
         ])
 
 -- "by rows, the sum of the past row": two rows that together are that of the newest mark's entries, after the pass.
-module _ (n : ℕ) (m : Mark) (older : List Mark) (so : Sound (m ∷ older)) (s r : ℕ → ℕ) (all : (d : ℕ) → max (s d) (r d) ≡ rowOf (m .stamp) d) where
+module _ (m : Mark) (older : List Mark) (so : Sound (m ∷ older)) (s r : ℕ → ℕ) (all : (d : ℕ) → max (s d) (r d) ≡ rowOf (m .stamp) d) where
   abbrev row : ℕ → ℕ
   row d = max (s d) (under older s r d)
 
   -- The row counts no mark that is not listed.
-  row-tally : (d : ℕ) → row d ≤ tally d (ids older)
+  pub row-tally : (d : ℕ) → max (s d) (under older s r d) ≤ tally d (ids older)
   row-tally d = elim (split (leb 1 (row d))) [
     | inl t ↦
         let i : MarkId = record { desk = d; number = row d } in
@@ -81,9 +81,9 @@ module _ (n : ℕ) (m : Mark) (older : List Mark) (so : Sound (m ∷ older)) (s 
     | inr t ↦ let k = nleb→lt 1 (row d) t in omega arith
   ]
 
-  pub reckoning-row : ((i : MarkId) → T (has i (ids older)) → (1 ≤ i .desk) × (i .desk ≤ n)) → reckoning (m ∷ older) (m .id) ≡ sumTo n (λ d. max (s d) (under older s r d))
+  pub reckoning-row : (n : ℕ) → ((i : MarkId) → T (has i (ids older)) → (1 ≤ i .desk) × (i .desk ≤ n)) → reckoning (m ∷ older) (m .id) ≡ sumTo n (λ d. max (s d) (under older s r d))
   unfolding reckoning
-  reckoning-row f = rw (nT→eq (precedes (m ∷ older) (m .id) (m .id)) alone) (ap length (keep-cong p q (ids older) agree)
+  reckoning-row n f = rw (nT→eq (precedes (m ∷ older) (m .id) (m .id)) alone) (ap length (keep-cong p q (ids older) agree)
       ∙ sum-counts n row (ids older) (sound-counted older (so .1)) f ∙ sum-cong n (λ d. min (row d) (tally d (ids older))) row (λ d a b. let t = row-tally d in omega arith))
     where
       p : MarkId → Bool

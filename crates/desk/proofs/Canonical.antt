@@ -6,7 +6,6 @@ use lib.Seq.{ext-getD}
 use mathlib.Core.List.{List, [], _∷_}
 use mathlib.Core.Logic.{inl, inr}
 use mathlib.Core.Path.{_∙_, _≡_, ap, refl, subst, sym}
-use native.Mathlib.Nat.{add-zero}
 use native.Mathlib.Numerals.{sub-one}
 use native.Mathlib.Omega.{arith}
 use Rattle.desk.specs.declared.Desk.{Desk}
@@ -24,11 +23,13 @@ use Rattle.causality.proofs.RowLaws.{row-of-entries}
 use Rattle.causality.specs.Rows.{entriesOfRow}
 use Rattle.causality.specs.inner.Passes.{rowOf}
 use Rattle.causality.proofs.TableRows.{by-rows}
-use Rattle.rows.specs.View.{Carried, Slots, ZeroFrom, boxAt, carriedAt, markAt, pastFrom, rowAt, view, width}
+use Rattle.rows.specs.View.{Slots, ZeroFrom, carriedAt, markAt, pastFrom, rowAt, view, width, downFrom}
 use Rattle.rows.proofs.Arrays.{view-length}
 use Rattle.executed.specs.Rows.{Chained, Rows}
 use Rattle.desk.specs.Promises.{MarkPromise, ReceivePromise}
 use Rattle.desk.specs.StateOf.{Kept, stateOf}
+use Rattle.rows.proofs.Down.{down-equal}
+use Rattle.rows.proofs.Stores.{box-same}
 
 -- Numbers of which those from the k-th on are zero are settled by those before it.
 zero-ext : (n k m : ℕ) (xs ys : List ℕ) → ZeroFrom xs n k → ZeroFrom ys n m → k ≡ m → ((q : ℕ) → q < k → getD xs q 0 ≡ getD ys q 0) → xs ≡ ys
@@ -36,23 +37,6 @@ zero-ext n k m xs ys zx zy e below = ext-getD 0 xs ys (zx .long ∙ sym (zy .lon
   | inl t ↦ below q (ltb→lt q k t)
   | inr t ↦ let h = nltb→le q k t in zx .zeros q h ∙ sym (zy .zeros q (omega arith))
 ])
-
--- The values of a function below a count, that of the greatest number first.
-abbrev down : {A : Type 0} → (ℕ → A) → ℕ → List A
-down f zero = []
-down f (suc p) = f p ∷ down f p
-
-down-at : {A : Type 0} (f g : ℕ → A) (count : ℕ) → down f count ≡ down g count → (p : ℕ) → p < count → f p ≡ g p
-down-at f g zero e p h = let z : ⊥ = omega arith in absurd z
-down-at f g (suc k) e p h = elim (split (ltb p k)) [
-  | inl t ↦ let r : down f k ≡ down g k = cc in down-at f g k r p (ltb→lt p k t)
-  | inr t ↦ let q = nltb→le p k t in let s : k ≡ p = omega arith in let r : f k ≡ g k = cc in subst (λ (x : ℕ). f x ≡ g x) s r
-]
-
-view-down : (n count : ℕ) (ds ns : List ℕ) (bs : ℕ → Carried) (ss : List ℕ) → view n count ds ns bs ss ≡ down (markAt n ds ns bs ss) count
-unfolding view
-view-down n zero ds ns bs ss = refl
-view-down n (suc p) ds ns bs ss = ap (λ (l : List Mark). markAt n ds ns bs ss p ∷ l) (view-down n p ds ns bs ss)
 
 -- Rows of the same entries have the same counts.
 row-same : (n : ℕ) (r s : ℕ → ℕ) → entriesOfRow n r ≡ entriesOfRow n s → (j : ℕ) → j < n → r (suc j) ≡ s (suc j)
@@ -62,14 +46,6 @@ row-same n r s e j h =
 stamp-same : (n : ℕ) (xs ys : List ℕ) (p : ℕ) → entriesOfRow n (rowAt n xs p) ≡ entriesOfRow n (rowAt n ys p) → (j : ℕ) → j < n
     → getD xs (p * n + j) 0 ≡ getD ys (p * n + j) 0
 stamp-same n xs ys p e j h = subst (λ (x : ℕ). getD xs (p * n + x) 0 ≡ getD ys (p * n + x) 0) (sub-one (suc j)) (row-same n (rowAt n xs p) (rowAt n ys p) e j h)
-
--- A box has four values.
-box-same : (xs ys : List ℕ) (p : ℕ) → boxAt xs p ≡ boxAt ys p → (j : ℕ) → j < 4 → getD xs (p * 4 + j) 0 ≡ getD ys (p * 4 + j) 0
-box-same xs ys p e zero h = rw add-zero (ap (λ (b : MarkBox). b .start) e)
-box-same xs ys p e (suc zero) h = ap (λ (b : MarkBox). b .end) e
-box-same xs ys p e (suc (suc zero)) h = ap (λ (b : MarkBox). b .low) e
-box-same xs ys p e (suc (suc (suc zero))) h = ap (λ (b : MarkBox). b .high) e
-box-same xs ys p e (suc (suc (suc (suc j)))) h = let z : ⊥ = omega arith in absurd z
 
 -- The number that stands for a past is settled by it.
 from-same : (n m : ℕ) → pastFrom n ≡ pastFrom m → n ≡ m
@@ -81,6 +57,7 @@ from-same (suc n) (suc m) e = let z : n ≡ m = cc in omega arith
 -- Arrays whose unused slots are zero are settled by the marks that they are.
 slots-same : (n c c′ : ℕ) (ds ns bs ps ss ds′ ns′ bs′ ps′ ss′ : List ℕ) → Slots n c ds ns bs ps ss → Slots n c′ ds′ ns′ bs′ ps′ ss′
     → view width c ds ns (carriedAt bs ps) ss ≡ view width c′ ds′ ns′ (carriedAt bs′ ps′) ss′ → (c ≡ c′) × (ds ≡ ds′) × (ns ≡ ns′) × (bs ≡ bs′) × (ps ≡ ps′) × (ss ≡ ss′)
+unfolding view
 slots-same n c c′ ds ns bs ps ss ds′ ns′ bs′ ps′ ss′ u v e = (
   same,
   zero-ext n c c′ ds ds′ (u .desks) (v .desks) same (λ p h. ap (λ (m : Mark). m .id .desk) (at p h)),
@@ -94,8 +71,7 @@ slots-same n c c′ ds ns bs ps ss ds′ ns′ bs′ ps′ ss′ u v e = (
     same = sym (view-length width c ds ns (carriedAt bs ps) ss) ∙ ap length e ∙ view-length width c′ ds′ ns′ (carriedAt bs′ ps′) ss′
 
     at : (p : ℕ) → p < c → markAt width ds ns (carriedAt bs ps) ss p ≡ markAt width ds′ ns′ (carriedAt bs′ ps′) ss′ p
-    at = down-at (markAt width ds ns (carriedAt bs ps) ss) (markAt width ds′ ns′ (carriedAt bs′ ps′) ss′) c
-        (sym (view-down width c ds ns (carriedAt bs ps) ss) ∙ e ∙ view-down width c′ ds′ ns′ (carriedAt bs′ ps′) ss′ ∙ ap (down (markAt width ds′ ns′ (carriedAt bs′ ps′) ss′)) (sym same))
+    at = down-equal (markAt width ds ns (carriedAt bs ps) ss) (markAt width ds′ ns′ (carriedAt bs′ ps′) ss′) c (e ∙ ap (downFrom (markAt width ds′ ns′ (carriedAt bs′ ps′) ss′)) (sym same))
 
 -- The chain is settled by the names.
 chained-same : (is : List MarkId) (bf bf′ : List ℕ) → Chained is bf → Chained is bf′ → (p : ℕ) → p < length is → getD bf p 0 ≡ getD bf′ p 0

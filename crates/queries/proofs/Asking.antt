@@ -1,5 +1,5 @@
 -- Asking whether entries lead from a row to a mark: where it stops, the row tells, and from there it reaches what it did. n: how many desks. Assumes nothing.
-use Prim.Native.Nat.{_*_, _+_, _-_, _<_, _≤_, max, suc, zero, ℕ}
+use Prim.Native.Nat.{_*_, _+_, _-_, _<_, _≤_, max, suc, ℕ}
 use borrow.Author.Tests.{le-leb, le-ltb, lt-leb, lt-ltb}
 use lib.Dec.{leb, leb→le, ltb→lt, nleb→lt, not-T}
 use lib.ListN.{getD, length, take}
@@ -19,7 +19,7 @@ use Rattle.rows.specs.View.{Carried, Named, namesDown, rowFn, view, width, name
 use Rattle.rows.proofs.Arrays.{sound-below}
 use Rattle.rows.proofs.Places.{ids-names}
 use Rattle.rows.proofs.RowSteps.{one-turn, pass-ended, pass-rest, pass-step}
-use Rattle.queries.specs.Steps.{AskedOf, endsAt, followedTo}
+use Rattle.queries.specs.Steps.{AskedOf, endsAt}
 use Rattle.queries.proofs.MadeBefore.{tally-few}
 use Rattle.queries.proofs.Reaching.{reach-end, reach-now, reached}
 use Rattle.rows.proofs.Down.{down-length}
@@ -48,13 +48,6 @@ module _ (n : ℕ) (ds ns : List ℕ) (bs : ℕ → Carried) (ss : List ℕ) (i 
         let m = ap (tally (i .desk)) (ids-names n ds ns bs ss at) in
         omega arith)))
   ]
-
--- Rows that agree at each desk agree at a desk.
-at-desk : (n : ℕ) (f g : ℕ → ℕ) → ((j : ℕ) → j < n → f (suc j) ≡ g (suc j)) → (d : ℕ) → 1 ≤ d → d ≤ n → f d ≡ g d
-at-desk n f g e zero lo hi = let z : ⊥ = omega arith in absurd z
-at-desk n f g e (suc j) lo hi = e j (omega arith)
-
--- LENT ARRAYS
 
 module _ (ds ns ss row : List ℕ) (at : ℕ) (i : MarkId) where
   -- It ends where it begins, by one of two tests: the row stays.
@@ -100,12 +93,12 @@ module _ (ds ns ss row : List ℕ) (at : ℕ) (i : MarkId) where
     asked-on next after made r z turned on a = let l = a .less in record {
       less = omega arith;
       long = a .long;
-      counts = λ bs j h. a .counts bs j h ∙ pass-step width ds ns bs ss (λ d. 0) at r (omega arith) f row next (turned bs) j h;
+      counts = λ bs j h. a .counts bs j h ∙ pass-step width ds ns bs ss (λ d. 0) at r (omega arith) f row next (turned bs) (suc j) (omega arith) h;
       standing = a .standing;
       ends = a .ends;
       first = λ bs q low high. elim (split (leb q (at - 1))) [
         | inl t ↦ let m = leb→le q (at - 1) t in subst (λ (x : ℕ). endsAt ds ns i q x ≡ false)
-            (at-desk width (followedTo ds ns bs ss next (at - 1) q) (followedTo ds ns bs ss row at q) (pass-step width ds ns bs ss (λ d. 0) at q (omega arith) f row next (turned bs)) (i .desk) lo hi) (a .first bs q low m)
+            (pass-step width ds ns bs ss (λ d. 0) at q (omega arith) f row next (turned bs) (i .desk) lo hi) (a .first bs q low m)
         | inr t ↦ let m = nleb→lt q (at - 1) t in
             let e : q ≡ at = omega arith in
             let y : at - at ≡ 0 = omega arith in
@@ -116,8 +109,7 @@ module _ (ds ns ss row : List ℕ) (at : ℕ) (i : MarkId) where
     module _ (after : List ℕ) (made r : ℕ) (a : AskedOf ds ns ss row at i after made r) where
       -- The row reaches there what it reached before.
       pub asked-reaches : (bs : ℕ → Carried) → reached width ds ns bs ss r after (i .desk) ≡ reached width ds ns bs ss at row (i .desk)
-      asked-reaches bs = at-desk width (reached width ds ns bs ss r after) (reached width ds ns bs ss at row)
-          (pass-rest width ds ns bs ss (λ d. 0) at r (a .less) f row after (a .counts bs)) (i .desk) lo hi
+      asked-reaches bs = pass-rest width ds ns bs ss (λ d. 0) at r (a .less) f row after (a .counts bs) (i .desk) lo hi
 
       -- It counts the mark if it reaches it.
       pub asked-told : (bs : ℕ → Carried) → Sound (view width at ds ns bs ss) → leb (i .number) (rowFn after (i .desk)) ≡ leb (i .number) (reached width ds ns bs ss at row (i .desk))

@@ -1,7 +1,7 @@
 -- How many marks of a desk a row reaches, and so how many precede a mark. n: how many desks. Assumes nothing.
 use Prim.Native.Nat.{_*_, _+_, _-_, _<_, _≤_, min, suc, ℕ}
 use borrow.Author.Tests.{eqb-true, lt-leb, lt-ltb}
-use lib.Dec.{T, eqb, leb, leb→le, nleb→lt, not-T}
+use lib.Dec.{T, eqb, leb, leb→le, nleb→lt}
 use lib.ListN.{getD, replicate}
 use mathlib.Core.Bool.{Bool, cond, false, or-true, true}
 use mathlib.Core.List.{List, [], _∷_}
@@ -13,20 +13,21 @@ use Rattle.causality.specs.Evidence.{inPast}
 use Rattle.causality.specs.Marks.{has, keep, same, tally}
 use Rattle.causality.specs.State.{Mark, ids, precedes}
 use Rattle.causality.proofs.Lists.{has-self}
-use Rattle.causality.proofs.Logic.{nT→eq, or-inr, split}
-use Rattle.causality.proofs.Past.{Counted, prefix-le}
+use Rattle.causality.proofs.Logic.{or-inr, split}
+use Rattle.causality.proofs.Past.{Counted, prefix-le, tally-le}
 use Rattle.causality.proofs.Reach.{Sound, sound-counted}
-use Rattle.causality.proofs.RowLaws.{show, under-out, under-up}
-use Rattle.causality.specs.inner.Passes.{under}
-use Rattle.rows.specs.View.{Carried, Named, nameAt, namesDown, rowAt, rowFn, view}
-use Rattle.rows.proofs.Arrays.{follows-below, sound-below}
-use Rattle.rows.proofs.ByRows.{row-at}
-use Rattle.rows.proofs.Places.{has-more, ids-names}
+use Rattle.causality.proofs.RowLaws.{under-up}
+use Rattle.causality.specs.inner.Passes.{under, rowOf}
+use Rattle.rows.specs.View.{Carried, Named, nameAt, namesDown, rowFn, view, markAt}
+use Rattle.rows.proofs.Arrays.{sound-below}
+use Rattle.rows.proofs.Places.{ids-names}
 use Rattle.rows.proofs.Slots.{zeros}
 use Rattle.queries.proofs.Asking.{told-ended}
 use Rattle.queries.proofs.MadeBefore.{met, none-yet, own-less}
-use Rattle.queries.proofs.PastRow.{reached-counts}
-use Rattle.queries.proofs.Reaching.{reach-passed, reached}
+use Rattle.queries.proofs.PastRow.{reached-counts, reached-is}
+use Rattle.queries.proofs.Reaching.{reach-passed, reached, no-row}
+use Rattle.rows.proofs.Down.{down-more}
+use Rattle.causality.proofs.RowCounts.{row-tally}
 
 -- Of desk d's marks those up to r pass: as many as there are of them.
 tally-run : (d r : ℕ) (p : MarkId → Bool) (is : List MarkId) → Counted is → ((i : MarkId) → T (has i is) → i .desk ≡ d → p i ≡ leb (i .number) r)
@@ -110,30 +111,15 @@ module _ (n : ℕ) (ds ns : List ℕ) (bs : ℕ → Carried) (ss : List ℕ) whe
     c : Counted (ids (view n count ds ns bs ss))
     c = sound-counted l s
 
-    -- An entry of its stamp is a mark.
-    entry-few : rowFn row d ≤ tally d (ids (view n count ds ns bs ss))
-    entry-few = elim (split (leb 1 (rowAt n ss p d))) [
-      | inl t ↦
-          let e : MarkId = record { desk = d; number = rowAt n ss p d } in
-          let u = show (rowAt n ss p) 1 n e (record { low = lo; high = omega arith; value = refl; pos = leb→le 1 (rowAt n ss p d) t }) in
-          let v = (prefix-le (ids l) c e (has-more n ds ns bs ss p count (omega arith) e (follows-below n count ds ns bs ss s p h .listed e u))) .1 in
-          let w = er (d - 1) (omega arith) in
-          omega arith
-      | inr t ↦ let v = nleb→lt 1 (rowAt n ss p d) t in let w = er (d - 1) (omega arith) in omega arith
-    ]
-
     -- It has no more marks of a desk than there are.
     few : reached n ds ns bs ss p row d ≤ tally d (ids (view n count ds ns bs ss))
-    few = elim (split (leb (suc (tally d (ids l))) (reached n ds ns bs ss p row d))) [
-      | inl t ↦
-          let i : MarkId = record { desk = d; number = suc (tally d (ids l)) } in
-          let out : T (has i (ids (view n p ds ns bs ss))) → ⊥ = λ u. let v = (prefix-le (ids l) c i (has-more n ds ns bs ss p count (omega arith) i u)) .1 in let z : ⊥ = omega arith in z in
-          let e = under-out (view n p ds ns bs ss) (sound-below n count ds ns bs ss s p (omega arith)) (λ d. 0) (rowFn row) i (omega arith) (nT→eq (has i (ids (view n p ds ns bs ss))) (not-T (has i (ids (view n p ds ns bs ss))) out)) in
-          let v = leb→le (suc (tally d (ids l))) (rowFn row d) (rw e at t) in
-          let r = entry-few in
-          let z : ⊥ = omega arith in absurd z
-      | inr t ↦ let v = nleb→lt (suc (tally d (ids l))) (reached n ds ns bs ss p row d) t in omega arith
-    ]
+    unfolding view
+    few =
+        let e = reached-is n ds ns bs ss p named row er d lo hi in
+        let r = rowOf ((markAt n ds ns bs ss p) .stamp) in
+        let a = row-tally (markAt n ds ns bs ss p) (view n p ds ns bs ss) (sound-below n count ds ns bs ss s (suc p) h) (λ d. 0) r (λ d. no-row (r d)) d in
+        let b = down-more (markAt n ds ns bs ss) (λ x. tally d (ids (view n p ds ns bs ss)) ≤ tally d (ids x)) (λ m x y. let z = tally-le d (m .id) (ids x) in omega arith) p count (omega arith) (omega arith) in
+        omega arith
 
     -- What the row of its stamp reaches at a desk is how many marks of that desk precede it.
     pub in-past-reached : reached n ds ns bs ss p row d ≡ inPast (view n count ds ns bs ss) d (nameAt ds ns p)
@@ -142,6 +128,5 @@ module _ (n : ℕ) (ds ns : List ℕ) (bs : ℕ → Carried) (ss : List ℕ) whe
         (λ i t e. reached-counts n ds ns bs ss count p h named s row er i (omega arith) (omega arith) ((prefix-le (ids l) c i t) .0) ∙ ap (λ (x : ℕ). leb (i .number) (reached n ds ns bs ss p row x)) e))
 
     -- A row that is traced from it has that count.
-    pub in-past-traced : (past : List ℕ) → ((j : ℕ) → j < n → getD past j 0 ≡ under (view n p ds ns bs ss) (rowFn (replicate n 0)) (rowFn row) (suc j))
-        → rowFn past d ≡ inPast (view n count ds ns bs ss) d (nameAt ds ns p)
-    in-past-traced past ep = row-at n past (under (view n p ds ns bs ss) (rowFn (replicate n 0)) (rowFn row)) ep d lo hi ∙ (λ k. under (view n p ds ns bs ss) (λ d. zeros n (d - 1) k) (rowFn row) d) ∙ in-past-reached
+    pub in-past-traced : (past : List ℕ) → rowFn past d ≡ under (view n p ds ns bs ss) (rowFn (replicate n 0)) (rowFn row) d → rowFn past d ≡ inPast (view n count ds ns bs ss) d (nameAt ds ns p)
+    in-past-traced past ep = ep ∙ (λ k. under (view n p ds ns bs ss) (λ d. zeros n (d - 1) k) (rowFn row) d) ∙ in-past-reached

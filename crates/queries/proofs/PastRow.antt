@@ -8,7 +8,7 @@ use mathlib.Core.Path.{_∙_, _≡_, ap, refl, sym}
 use native.Mathlib.Omega.{arith}
 use Rattle.frame.specs.Mark.{MarkId}
 use Rattle.causality.specs.Marks.{has}
-use Rattle.causality.specs.State.{Mark, ids, precedes}
+use Rattle.causality.specs.State.{ids, precedes}
 use Rattle.causality.proofs.Apart.{past-counts}
 use Rattle.causality.proofs.Logic.{nT→eq}
 use Rattle.causality.proofs.Past.{prefix-le}
@@ -23,24 +23,23 @@ use Rattle.rows.proofs.RowSteps.{named-at, named-desks}
 use Rattle.queries.proofs.Reaching.{no-row, reached}
 
 module _ (n : ℕ) (ds ns : List ℕ) (bs : ℕ → Carried) (ss : List ℕ) where
-  -- What the row of its stamp reaches counts the marks that precede that at place p.
+  -- What a row that is read at place p reaches, the row of the stamp there reaches.
+  pub reached-is : (p : ℕ) → Named n p ds → (row : List ℕ) → ((j : ℕ) → j < n → getD row j 0 ≡ getD ss (p * n + j) 0) → (d : ℕ) → 1 ≤ d → d ≤ n
+      → reached n ds ns bs ss p row d ≡ max 0 (under (view n p ds ns bs ss) (λ d. 0) (rowOf ((markAt n ds ns bs ss p) .stamp)) d)
+  reached-is p f row er d lo hi =
+      under-cong n (view n p ds ns bs ss) (named-desks n p ds ns bs ss f) (λ d. 0) (λ d. 0) (rowFn row) (rowOf ((markAt n ds ns bs ss p) .stamp)) (λ d lo hi. refl)
+      (λ d lo hi. er (d - 1) (omega arith) ∙ sym (row-of-entries n (rowAt n ss p) d lo hi)) d lo hi
+      ∙ sym (no-row (under (view n p ds ns bs ss) (λ d. 0) (rowOf ((markAt n ds ns bs ss p) .stamp)) d))
+
+  -- It counts the marks that precede that at place p.
   pub reached-counts : (count p : ℕ) → p < count → Named n p ds → Sound (view n count ds ns bs ss) → (row : List ℕ) → ((j : ℕ) → j < n → getD row j 0 ≡ getD ss (p * n + j) 0)
       → (i : MarkId) → 1 ≤ i .desk → i .desk ≤ n → 1 ≤ i .number
       → precedes (view n count ds ns bs ss) i ((markAt n ds ns bs ss p) .id) ≡ leb (i .number) (reached n ds ns bs ss p row (i .desk))
   unfolding view
   reached-counts count p h f s row er i lo hi pos =
-      precedes-there n ds ns bs ss count p s h i ∙ past-counts (markAt n ds ns bs ss p) l (sound-below n count ds ns bs ss s (suc p) h) (λ d. 0) r (λ d. no-row (r d)) i pos ∙ ap (leb (i .number)) (sym traced)
-    where
-      l : List Mark
-      l = view n p ds ns bs ss
-
-      r : ℕ → ℕ
-      r = rowOf ((markAt n ds ns bs ss p) .stamp)
-
-      traced : reached n ds ns bs ss p row (i .desk) ≡ max 0 (under l (λ d. 0) r (i .desk))
-      traced =
-          under-cong n l (named-desks n p ds ns bs ss f) (λ d. 0) (λ d. 0) (rowFn row) r (λ d lo hi. refl) (λ d lo hi. er (d - 1) (omega arith) ∙ sym (row-of-entries n (rowAt n ss p) d lo hi)) (i .desk) lo hi
-          ∙ sym (no-row (under l (λ d. 0) r (i .desk)))
+      let r = rowOf ((markAt n ds ns bs ss p) .stamp) in
+      precedes-there n ds ns bs ss count p s h i
+      ∙ past-counts (markAt n ds ns bs ss p) (view n p ds ns bs ss) (sound-below n count ds ns bs ss s (suc p) h) (λ d. 0) r (λ d. no-row (r d)) i pos ∙ ap (leb (i .number)) (sym (reached-is p f row er (i .desk) lo hi))
 
   -- Entries lead from the row of the mark at q to the mark at an earlier place if that mark precedes it.
   pub led : (count p q : ℕ) → p < q → q < count → Named n q ds → Sound (view n count ds ns bs ss) → (row : List ℕ) → ((j : ℕ) → j < n → getD row j 0 ≡ getD ss (q * n + j) 0) → (r : Bool)

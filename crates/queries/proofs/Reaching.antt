@@ -1,5 +1,5 @@
 -- Precedence by one row that is joined place by place, down to the place of the mark that is looked for. n: how many desks. Assumes nothing.
-use Prim.Native.Nat.{_*_, _+_, _-_, _<_, _≤_, max, suc, zero, ℕ}
+use Prim.Native.Nat.{_*_, _+_, _-_, _<_, _≤_, max, ℕ}
 use borrow.Author.Tests.{le-leb, lt-leb}
 use lib.Dec.{T, leb, not-T}
 use lib.ListN.{getD}
@@ -41,11 +41,10 @@ module _ (n : ℕ) (ds ns : List ℕ) (bs : ℕ → Carried) (ss : List ℕ) whe
   -- The mark at the last place is counted, and its row is joined.
   pub reach-joined : (k : ℕ) (row row′ : List ℕ) → 0 < k → Named n k ds → getD ns (k - 1) 0 ≤ rowFn row (getD ds (k - 1) 0)
       → ((j : ℕ) → j < n → getD row′ j 0 ≡ max (getD row j 0) (getD ss ((k - 1) * n + j) 0)) → (d : ℕ) → 1 ≤ d → d ≤ n → reached (k - 1) row′ d ≡ reached k row d
-  reach-joined k row row′ z f q h zero lo hi = let y : ⊥ = omega arith in absurd y
-  reach-joined k row row′ z f q h (suc j) lo hi =
+  reach-joined k row row′ z f q h d lo hi =
       under-joined n ds ns bs ss (λ d. 0) (k - 1) (view n (k - 1) ds ns bs ss) (named-desks n (k - 1) ds ns bs ss (named-less n k ds (k - 1) f (omega arith))) row row′
-      (le-leb (getD ns (k - 1) 0) (max 0 (rowFn row (getD ds (k - 1) 0))) (omega arith)) h j (omega arith)
-      ∙ ap (λ (l : List Mark). under l (λ d. 0) (rowFn row) (suc j)) (sym (view-last n ds ns bs ss k z))
+      (le-leb (getD ns (k - 1) 0) (max 0 (rowFn row (getD ds (k - 1) 0))) (omega arith)) h d lo hi
+      ∙ ap (λ (l : List Mark). under l (λ d. 0) (rowFn row) d) (sym (view-last n ds ns bs ss k z))
 
   -- It is not counted.
   pub reach-passed : (k : ℕ) (row : List ℕ) → 0 < k → rowFn row (getD ds (k - 1) 0) < getD ns (k - 1) 0 → (d : ℕ) → 1 ≤ d → reached (k - 1) row d ≡ reached k row d

@@ -54,6 +54,14 @@ module _ {A : Type 0} (f : ℕ → A) where
   down-cong g zero e = refl
   down-cong g (suc k) e = let a = e k (omega arith) in let b = down-cong g k (λ p h. e p (omega arith)) in λ i. a i ∷ b i
 
+-- Two such lists are one only if they agree at each place.
+pub down-equal : {A : Type 0} (f g : ℕ → A) (k : ℕ) → downFrom f k ≡ downFrom g k → (p : ℕ) → p < k → f p ≡ g p
+down-equal f g zero e p h = let z : ⊥ = omega arith in absurd z
+down-equal f g (suc k) e p h = elim (eq-or-lt-of-le {n = p} {m = k} (omega arith)) [
+  | inl q ↦ let r : f k ≡ g k = cc in subst (λ (x : ℕ). f x ≡ g x) (sym q) r
+  | inr l ↦ let r : downFrom f k ≡ downFrom g k = cc in down-equal f g k r p l
+]
+
 module _ (f : ℕ → Mark) where
   pub down-ids : (k : ℕ) → ids (downFrom f k) ≡ downFrom (λ p. f p .id) k
   down-ids zero = refl

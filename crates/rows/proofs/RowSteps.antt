@@ -130,9 +130,9 @@ module _ (n : ℕ) (ds ns : List ℕ) (bs : ℕ → Carried) (ss : List ℕ) whe
     -- A mark in front of others is covered, and its row is joined.
     pub under-joined : (p : ℕ) (l : List Mark) → All (λ m. (1 ≤ m .id .desk) × (m .id .desk ≤ n)) l → (row row′ : List ℕ)
         → leb (getD ns p 0) (max (s (getD ds p 0)) (rowFn row (getD ds p 0))) ≡ true → ((j : ℕ) → j < n → getD row′ j 0 ≡ max (getD row j 0) (getD ss (p * n + j) 0))
-        → (j : ℕ) → j < n → under l s (rowFn row′) (suc j) ≡ under (markAt n ds ns bs ss p ∷ l) s (rowFn row) (suc j)
-    under-joined p l a row row′ q h j k = rw (q, under) (under-cong n l a s s (rowFn row′) (λ d. max (rowFn row d) (rowOf (entriesOfRow n (rowAt n ss p)) d)) (λ d lo hi. refl)
-        (λ d lo hi. h (d - 1) (omega arith) ∙ ap (λ (x : ℕ). max (rowFn row d) x) (sym (row-of-entries n (rowAt n ss p) d lo hi))) (suc j) (omega arith) (omega arith))
+        → (d : ℕ) → 1 ≤ d → d ≤ n → under l s (rowFn row′) d ≡ under (markAt n ds ns bs ss p ∷ l) s (rowFn row) d
+    under-joined p l a row row′ q h d lo hi = rw (q, under) (under-cong n l a s s (rowFn row′) (λ d. max (rowFn row d) (rowOf (entriesOfRow n (rowAt n ss p)) d)) (λ d lo hi. refl)
+        (λ d lo hi. h (d - 1) (omega arith) ∙ ap (λ (x : ℕ). max (rowFn row d) x) (sym (row-of-entries n (rowAt n ss p) d lo hi))) d lo hi)
 
     -- It is not covered.
     pub under-passed : (p : ℕ) (l : List Mark) (row : List ℕ) → leb (getD ns p 0) (max (s (getD ds p 0)) (rowFn row (getD ds p 0))) ≡ false
@@ -152,41 +152,31 @@ module _ (n : ℕ) (ds ns : List ℕ) (bs : ℕ → Carried) (ss : List ℕ) whe
         → ((leb (getD ns p 0) (max (s (getD ds p 0)) (rowFn row (getD ds p 0))) ≡ true) × ((j : ℕ) → j < n → getD row′ j 0 ≡ max (getD row j 0) (getD ss (p * n + j) 0)))
         ⊎ ((leb (getD ns p 0) (max (s (getD ds p 0)) (rowFn row (getD ds p 0))) ≡ false) × (row′ ≡ row))
         → (j : ℕ) → j < n → getD row′ j 0 ≡ under (take (suc p - p) (view n (suc p) ds ns bs ss)) s (rowFn row) (suc j)
-    one-turn p row row′ (inl w) j l = rw (alone p) (ap (λ (k : ℕ). getD row′ k 0) (sym (sub-one (suc j))) ∙ under-joined p [] tt row row′ (w .0) (w .1) j l)
+    one-turn p row row′ (inl w) j l = rw (alone p) (ap (λ (k : ℕ). getD row′ k 0) (sym (sub-one (suc j))) ∙ under-joined p [] tt row row′ (w .0) (w .1) (suc j) (omega arith) l)
     one-turn p row row′ (inr w) j l = rw (w .1) (rw (alone p) (ap (λ (k : ℕ). getD row k 0) (sym (sub-one (suc j))) ∙ under-passed p [] row (w .0) (suc j)))
+
+    -- A pass over some marks left a row; one over others goes on from it.
+    pass-on : (xs ys : List Mark) → All (λ m. (1 ≤ m .id .desk) × (m .id .desk ≤ n)) ys → (row row′ : List ℕ) → ((j : ℕ) → j < n → getD row′ j 0 ≡ under xs s (rowFn row) (suc j))
+        → (d : ℕ) → 1 ≤ d → d ≤ n → under ys s (rowFn row′) d ≡ under (xs ++ ys) s (rowFn row) d
+    pass-on xs ys a row row′ e d lo hi = under-cong n ys a s s (rowFn row′) (under xs s (rowFn row)) (λ c p q. refl) (row-at n row′ (under xs s (rowFn row)) e) d lo hi
+        ∙ ap (λ (g : ℕ → ℕ). g d) (sym (under-append xs ys s (rowFn row)))
 
     -- The mark at the last place, then the pass over those before it.
     pub pass-step : (k to : ℕ) → to < k → Named n k ds → (row row′ : List ℕ)
-        → ((j : ℕ) → j < n → getD row′ j 0 ≡ under (take (suc (k - 1) - (k - 1)) (view n (suc (k - 1)) ds ns bs ss)) s (rowFn row) (suc j)) → (j : ℕ) → j < n
-        → under (take (k - 1 - to) (view n (k - 1) ds ns bs ss)) s (rowFn row′) (suc j) ≡ under (take (k - to) (view n k ds ns bs ss)) s (rowFn row) (suc j)
-    pass-step k to h f row row′ e j l =
-        under-cong n rest (all-take (λ m. (1 ≤ m .id .desk) × (m .id .desk ≤ n)) (k - 1 - to) (view n (k - 1) ds ns bs ss)
-        (named-desks n (k - 1) ds ns bs ss (named-less n k ds (k - 1) f (omega arith)))) s s (rowFn row′) (under first s (rowFn row)) (λ d lo hi. refl)
-        (row-at n row′ (under first s (rowFn row)) (λ i m. e i m ∙ ap (λ (x : List Mark). under x s (rowFn row) (suc i)) (alone (k - 1)))) (suc j) (omega arith) (omega arith)
-        ∙ ap (λ (g : ℕ → ℕ). g (suc j)) (sym (under-append first rest s (rowFn row))) ∙ ap (λ (x : List Mark). under x s (rowFn row) (suc j)) (sym (last-between k to h))
+        → ((j : ℕ) → j < n → getD row′ j 0 ≡ under (take (suc (k - 1) - (k - 1)) (view n (suc (k - 1)) ds ns bs ss)) s (rowFn row) (suc j)) → (d : ℕ) → 1 ≤ d → d ≤ n
+        → under (take (k - 1 - to) (view n (k - 1) ds ns bs ss)) s (rowFn row′) d ≡ under (take (k - to) (view n k ds ns bs ss)) s (rowFn row) d
+    pass-step k to h f row row′ e d lo hi =
+        pass-on (take (suc (k - 1) - (k - 1)) (view n (suc (k - 1)) ds ns bs ss)) rest (all-take (λ m. (1 ≤ m .id .desk) × (m .id .desk ≤ n)) (k - 1 - to) (view n (k - 1) ds ns bs ss)
+        (named-desks n (k - 1) ds ns bs ss (named-less n k ds (k - 1) f (omega arith)))) row row′ e d lo hi
+        ∙ ap (λ (x : List Mark). under x s (rowFn row) d) (ap (λ (x : List Mark). x ++ rest) (alone (k - 1)) ∙ sym (last-between k to h))
       where
-        first : List Mark
-        first = markAt n ds ns bs ss (k - 1) ∷ []
-
         rest : List Mark
         rest = take (k - 1 - to) (view n (k - 1) ds ns bs ss)
 
     -- A pass down to a place, and the pass over the marks before it gives what the whole pass gives.
     pub pass-rest : (k to : ℕ) → to ≤ k → Named n k ds → (row row′ : List ℕ)
         → ((j : ℕ) → j < n → getD row′ j 0 ≡ under (take (k - to) (view n k ds ns bs ss)) s (rowFn row) (suc j))
-        → (j : ℕ) → j < n → under (view n to ds ns bs ss) s (rowFn row′) (suc j) ≡ under (view n k ds ns bs ss) s (rowFn row) (suc j)
-    pass-rest k to h f row row′ e j l =
-        under-cong n older (named-desks n to ds ns bs ss (named-less n k ds to f h)) s s (rowFn row′) (under newer s (rowFn row)) (λ d lo hi. refl)
-        (row-at n row′ (under newer s (rowFn row)) e) (suc j) (omega arith) (omega arith)
-        ∙ ap (λ (g : ℕ → ℕ). g (suc j)) (sym (under-append newer older s (rowFn row))) ∙ ap (λ (x : List Mark). under x s (rowFn row) (suc j)) (split-view k to h)
-      where
-        newer : List Mark
-        newer = take (k - to) (view n k ds ns bs ss)
-
-        older : List Mark
-        older = view n to ds ns bs ss
-
-    -- No mark is left.
-    pub under-none : (row : List ℕ) (j : ℕ) → getD row j 0 ≡ under (view n 0 ds ns bs ss) s (rowFn row) (suc j)
-    unfolding view
-    under-none row j = let e : suc j - 1 ≡ j = sub-one (suc j) in rw e refl
+        → (d : ℕ) → 1 ≤ d → d ≤ n → under (view n to ds ns bs ss) s (rowFn row′) d ≡ under (view n k ds ns bs ss) s (rowFn row) d
+    pass-rest k to h f row row′ e d lo hi =
+        pass-on (take (k - to) (view n k ds ns bs ss)) (view n to ds ns bs ss) (named-desks n to ds ns bs ss (named-less n k ds to f h)) row row′ e d lo hi
+        ∙ ap (λ (x : List Mark). under x s (rowFn row) d) (split-view k to h)

@@ -113,9 +113,8 @@ module _ (n count to : ℕ) (ds ns : List ℕ) (bs : ℕ → Carried) (ss : List
 
   -- The rest of the pass gives what is under the stamp.
   rest : (d : ℕ) → 1 ≤ d → d ≤ n → under first (rowFn row) (rowFn below) d ≡ under l (rowFn row) (λ d. 0) d
-  rest zero p q = let z : ⊥ = omega arith in absurd z
-  rest (suc j) p q = pass-rest n ds ns bs ss (rowFn row) count to le f (replicate n 0) below g j (omega arith)
-      ∙ under-cong n l named-all (rowFn row) (rowFn row) (rowFn (replicate n 0)) (λ d. 0) (λ d p q. refl) (λ d p q. zeros n (d - 1)) (suc j) p q
+  rest d p q = pass-rest n ds ns bs ss (rowFn row) count to le f (replicate n 0) below g d p q
+      ∙ under-cong n l named-all (rowFn row) (rowFn row) (rowFn (replicate n 0)) (λ d. 0) (λ d p q. refl) (λ d p q. zeros n (d - 1)) d p q
 
   module _ (i : MarkId) (b : MarkBox) (said : Past) (lo : 1 ≤ i .desk) (hi : i .desk ≤ n) where
     abbrev mark : Past → Mark
@@ -194,7 +193,7 @@ module _ (n count to : ℕ) (ds ns : List ℕ) (bs : ℕ → Carried) (ss : List
       pub reckoned-found : 1 ≤ i .number → has i (ids l) ≡ false → T (ready l (mark said)) → falseEntries l (mark said) ≡ false
           → greaterSum n row below ≡ reckoning (mark said ∷ l) i
       unfolding ready falseStamp falseEntries reckoning
-      reckoned-found pos new t e = sym (reckoning-row n (reckoned l (mark Unsaid)) l (follows, s) (rowOf es) (λ d. 0) (λ d. omega arith) (λ j u. named-has n ds ns bs ss count f j u) ∙ sum-cong n (λ d. max (rowOf es d) (under l (rowOf es) (λ d. 0) d)) (λ d. max (rowFn row d) (rowFn below d)) settled)
+      reckoned-found pos new t e = sym (reckoning-row (reckoned l (mark Unsaid)) l (follows, s) (rowOf es) (λ d. 0) (λ d. omega arith) n (λ j u. named-has n ds ns bs ss count f j u) ∙ sum-cong n (λ d. max (rowOf es d) (under l (rowOf es) (λ d. 0) d)) (λ d. max (rowFn row d) (rowFn below d)) settled)
         where
           follows : Follows (reckoned l (mark Unsaid)) l
           follows = follows-of l (mark Unsaid) s pos (rw new tt) t (rw e refl)

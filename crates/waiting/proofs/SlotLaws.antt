@@ -1,23 +1,22 @@
 -- A slot of flat arrays taken out: the numbers that move, those that are freed, the marks that the arrays are then. n: how many desks. Assumes nothing.
-use Prim.Native.Nat.{_*_, _+_, _-_, _<_, _≤_, suc, zero, ℕ}
+use Prim.Native.Nat.{_*_, _+_, _-_, _<_, _≤_, suc, ℕ}
 use lib.Dec.{ltb, ltb→lt, nltb→le}
 use lib.ListN.{getD, length, length-set, replicate, set}
 use lib.Seq.{getD-set-other, getD-set-same}
-use mathlib.Core.List.{List}
+use mathlib.Core.List.{List, []}
 use mathlib.Core.Logic.{inl, inr, ⊎-elim}
 use mathlib.Core.Path.{_∙_, _≡_, ap, refl, subst, sym}
 use native.Mathlib.Nat.{add-zero, eq-or-lt-of-le, mul-le-mul-right, suc-mul}
 use native.Mathlib.Numerals.{add-one}
 use native.Mathlib.Omega.{arith}
-use Rattle.frame.specs.declared.MarkBox.{MarkBox}
 use Rattle.causality.specs.Marks.{waitingPlaces}
 use Rattle.causality.proofs.Logic.{split}
-use Rattle.rows.specs.View.{SameOutside, ZeroFrom, boxAt, carriedAt, markAt, noBox, pastFrom, view, width}
+use Rattle.rows.specs.View.{SameOutside, ZeroFrom, carriedAt, markAt, noBox, pastFrom, view, width}
 use Rattle.rows.specs.Steps.{HasSlot, Stored}
 use Rattle.rows.specs.declared.Held.{Held}
 use Rattle.rows.proofs.Arrays.{mark-same}
 use Rattle.rows.proofs.Slots.{has-slot, row-fits, stored-below, zeros}
-use Rattle.rows.proofs.Stores.{outside-none, outside-set}
+use Rattle.rows.proofs.Stores.{outside-none, outside-set, box-same}
 use Rattle.waiting.specs.Queue.{Closed, Queued, Removed, queueOf, takenOut}
 use Rattle.waiting.proofs.ListLaws.{view-taken, view-without}
 use Rattle.rows.proofs.Down.{down-cong}
@@ -77,13 +76,6 @@ freed-one n k before mid from to z l h c =
     let b = c .long in
     freed 1 n k before mid (set mid to 0) from to z l c (outside-set mid to 1 mid to 0 (outside-none mid to 1) (omega arith) (omega arith))
     (λ j q. let e : to + j ≡ to = omega arith in ap (λ (i : ℕ). getD (set mid to 0) i 0) e ∙ getD-set-same mid to 0 0 (omega arith))
-
-box-zeros : (xs : List ℕ) (p : ℕ) → boxAt xs p ≡ noBox → (j : ℕ) → j < 4 → getD xs (p * 4 + j) 0 ≡ 0
-box-zeros xs p e zero h = rw (add-zero (p * 4)) (ap (λ (b : MarkBox). b .start) e)
-box-zeros xs p e (suc zero) h = ap (λ (b : MarkBox). b .end) e
-box-zeros xs p e (suc (suc zero)) h = ap (λ (b : MarkBox). b .low) e
-box-zeros xs p e (suc (suc (suc zero))) h = ap (λ (b : MarkBox). b .high) e
-box-zeros xs p e (suc (suc (suc (suc j)))) h = let z : ⊥ = omega arith in absurd z
 
 -- The numbers of the slots before slot i are as they were, and those of the slots behind it stand one slot lower.
 module _ (w i last : ℕ) (before after : List ℕ) (c : Closed w before after (i * w) (last * w)) (p j : ℕ) (h : j < w) where
@@ -157,7 +149,7 @@ removed i count last ds ns bs ps ss md mn mb mp ms ds′ ns′ bs′ ps′ ss′
           desks = rw (x .desks) (freed-one waitingPlaces count ds md i last (s .desks) (omega arith) (omega arith) cd);
           numbers = rw (x .numbers) (freed-one waitingPlaces count ns mn i last (s .numbers) (omega arith) (omega arith) cn);
           pasts = rw (x .pasts) (freed-one waitingPlaces count ps mp i last (s .pasts) (omega arith) (omega arith) cp);
-          boxes = freed 4 (waitingPlaces * 4) (count * 4) bs mb bs′ (i * 4) (last * 4) (s .boxes) (omega arith) cb (x .boxes) (box-zeros bs′ last (x .extent));
+          boxes = freed 4 (waitingPlaces * 4) (count * 4) bs mb bs′ (i * 4) (last * 4) (s .boxes) (omega arith) cb (x .boxes) (box-same bs′ [] last (x .extent));
           stamps = freed width (waitingPlaces * width) (count * width) ss ms ss′ (i * width) (last * width) (s .stamps) (omega arith) cs (x .stamps) (λ j h. x .row j h ∙ zeros width j);
         };
       };

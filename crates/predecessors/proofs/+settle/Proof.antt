@@ -133,7 +133,7 @@ settle-returns-3 t c =
         long = r .traced .long;
         counts = λ bs j h. r .traced .counts bs j h
             ∙ pass-step width (a .desks .now) (a .numbers .now) bs (a .stamps .now) (rowFn (a .entries .now)) (a .at .0) (r .place) (omega arith) (s .pre .1 .1) (a .below .now) (c .before .before .before .if4 .below)
-            (row-turned t (c .before .before .before) bs) j h;
+            (row-turned t (c .before .before .before) bs) (suc j) (omega arith) h;
       };
       covers = r .covers;
     }
