@@ -69,7 +69,7 @@ pub fn arrive(
             Received::Waiting(short)
         }
         Verdict::Runs(past) => {
-            let kept = rows::with_past(h, past);
+            let kept = rows::store::with_past(h, past);
             executed::execute(
                 count,
                 desks,

@@ -33,14 +33,14 @@ fn turn(
         (found count desks numbers boxes pasts stamps tally heads last before) (heldFound waiting wdesks wnumbers wboxes wpasts wstamps)
         (left count desks numbers boxes pasts stamps tally heads last before) (heldLeft waiting wdesks wnumbers wboxes wpasts wstamps) r ⌝ }
 {
-    let h = rows::mark_at(wdesks, wnumbers, wboxes, wpasts, wstamps, i);
+    let h = rows::store::mark_at(wdesks, wnumbers, wboxes, wpasts, wstamps, i);
     waiting::remove(waiting, wdesks, wnumbers, wboxes, wpasts, wstamps, i);
     let at = *count;
     let past = verdict::reckon(desks, numbers, stamps, tally, at, h);
     if past == 0 {
         return false;
     }
-    let kept = rows::with_past(h, past);
+    let kept = rows::store::with_past(h, past);
     executed::execute(
         count,
         desks,

@@ -53,7 +53,7 @@ pub fn execute(
     let number = h.number;
     let row = h.row;
     let d = h.desk as usize - 1;
-    rows::store(desks, numbers, boxes, pasts, stamps, at, h);
+    rows::store::store(desks, numbers, boxes, pasts, stamps, at, h);
     strike(heads, row);
     heads[d] = number.0;
     tally[d] = number.0;

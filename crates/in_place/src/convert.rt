@@ -39,7 +39,7 @@ fn write_kept<'a>(
     if PLACES <= p {
         return Writing::Refused(Refusal::NotExecuted);
     }
-    let kept = rows::mark_at(desks, numbers, boxes, pasts, stamps, p);
+    let kept = rows::store::mark_at(desks, numbers, boxes, pasts, stamps, p);
     if !verdict::same_fields(kept, h) {
         return Writing::Refused(Refusal::OtherFields);
     }
@@ -98,7 +98,7 @@ pub fn to_first(frame: &[u8], out: &mut [u8]) -> Writing
             if h.past == 0 {
                 return Writing::Refused(Refusal::SameEdition);
             }
-            mark::write_mark(rows::with_past(h, 0), out)
+            mark::write_mark(rows::store::with_past(h, 0), out)
         }
     }
 }

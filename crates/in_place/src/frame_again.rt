@@ -29,5 +29,8 @@ pub fn write_again<'a>(
     if PLACES <= p {
         return Writing::Refused(Refusal::NotExecuted);
     }
-    mark::write_mark(rows::mark_at(desks, numbers, boxes, pasts, stamps, p), out)
+    mark::write_mark(
+        rows::store::mark_at(desks, numbers, boxes, pasts, stamps, p),
+        out,
+    )
 }

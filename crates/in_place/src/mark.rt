@@ -29,8 +29,8 @@ pub(crate) fn write_mark(h: Held, out: &mut [u8]) -> Writing
     let row = h.row;
     let number = h.number;
     let extent = h.extent;
-    let past = rows::past_from(h.past);
-    let e = rows::entries_of(row);
+    let past = rows::store::past_from(h.past);
+    let e = rows::codec::entries_of(row);
     let bytes = e.bytes;
     let size = e.size;
     writer::write(

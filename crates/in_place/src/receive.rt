@@ -26,12 +26,12 @@ pub(crate) fn mark_in(f: Fields, frame: &[u8]) -> Held
     let number = f.number;
     let extent = f.extent;
     let past = f.past;
-    let row = rows::row_of(reader::entries(frame));
+    let row = rows::codec::row_of(reader::entries(frame));
     Held {
         desk: f.desk,
         number: number,
         extent: extent,
-        past: rows::past_number(past),
+        past: rows::store::past_number(past),
         row: row,
     }
 }

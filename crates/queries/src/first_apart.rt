@@ -111,7 +111,7 @@ fn search<'a>(
     ensures { λ r. ⌜ SearchedOf (now (desks .entry)) (now (numbers .entry)) (now (stamps .entry)) (p .0) desk t r × (r .asks ≤ mostAsks) ⌝ }
 {
     let d = desk as usize - 1;
-    let mut row = rows::row_at(stamps, p.0);
+    let mut row = rows::row::row_at(stamps, p.0);
     let mut made = t;
     let mut at = p.0;
     let mut low = lesser(row[d], t);

@@ -54,6 +54,6 @@ pub fn in_past<'a>(
     requires { ⌜ (p .0 < places) × Named width (p .0) (now desks) × (1 ≤ desk) × (desk ≤ width) ⌝ }
     ensures { λ r. ⌜ InPastTo (now (desks .entry)) (now (numbers .entry)) (now (stamps .entry)) (p .0) desk most r ⌝ }
 {
-    let mut row = rows::row_at(stamps, p.0);
+    let mut row = rows::row::row_at(stamps, p.0);
     count(desks, numbers, stamps, &mut row, p, desk, most)
 }

@@ -17,7 +17,7 @@ pub fn past<'a>(
     ensures { λ r. ⌜ PastOf (now (desks .entry)) (now (numbers .entry)) (now (stamps .entry)) (p .0) r ⌝ }
 {
     let none = [0u16; WIDTH];
-    let mut row = rows::row_at(stamps, p.0);
+    let mut row = rows::row::row_at(stamps, p.0);
     predecessors::trace(desks, numbers, stamps, &none, &mut row, p, Place(0));
     row
 }

@@ -61,7 +61,7 @@ fn precedes<'a>(
         desk: desks[k],
         number: Number(numbers[k]),
     };
-    let mut row = rows::row_at(stamps, q.0);
+    let mut row = rows::row::row_at(stamps, q.0);
     follow(desks, numbers, stamps, &mut row, q, p, i)
 }
 

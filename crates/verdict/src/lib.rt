@@ -66,7 +66,7 @@ pub fn same_fields(a: Held, b: Held) -> bool
     }
     let row = a.row;
     let counts = b.row;
-    if !rows::same_counts(row, counts) {
+    if !rows::row::same_counts(row, counts) {
         return false;
     }
     same_past(a.past, b.past)
@@ -223,12 +223,15 @@ pub fn judge<'a>(
     };
     let p = executed::find(tally, last, before, i);
     if p < PLACES {
-        return known(rows::mark_at(desks, numbers, boxes, pasts, stamps, p), h);
+        return known(
+            rows::store::mark_at(desks, numbers, boxes, pasts, stamps, p),
+            h,
+        );
     }
     let s = waiting::find(wdesks, wnumbers, waiting, h.desk, n.0);
     if s < waiting {
         return known(
-            rows::mark_at(wdesks, wnumbers, wboxes, wpasts, wstamps, s),
+            rows::store::mark_at(wdesks, wnumbers, wboxes, wpasts, wstamps, s),
             h,
         );
     }

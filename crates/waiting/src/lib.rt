@@ -53,7 +53,7 @@ pub fn push(
     ensures { λ _. ⌜ Pushed h (found count desks numbers boxes pasts stamps) (left count desks numbers boxes pasts stamps) ⌝ }
 {
     let at = *count;
-    rows::store(desks, numbers, boxes, pasts, stamps, at, h);
+    rows::store::store(desks, numbers, boxes, pasts, stamps, at, h);
     *count = at + 1;
 }
 
@@ -124,7 +124,7 @@ pub fn remove(
     close_boxes(boxes, i * BOX, last * BOX);
     close(pasts, i, last, 1);
     close(stamps, i * WIDTH, last * WIDTH, WIDTH);
-    rows::store(desks, numbers, boxes, pasts, stamps, last, none);
+    rows::store::store(desks, numbers, boxes, pasts, stamps, last, none);
     *count = last;
 }
 
@@ -167,7 +167,7 @@ pub fn lowest_ready<'a>(
     let mut i = 0;
     while i < count {
         let desk = desks[i];
-        let row = rows::row_at(stamps, i);
+        let row = rows::row::row_at(stamps, i);
         if predecessors::missing(tally, desk, numbers[i], row) == 0 {
             if desk <= lowest {
                 best = i;

@@ -8,8 +8,8 @@ use Rattle.frame.specs.Frame.{pastBad}
 use Rattle.frame.specs.Mark.{pasts}
 use Rattle.frame.specs.declared.Past.{Past}
 use Rattle.rows.proofs.Pasts.{from-count}
-use Rattle.rows.proofs.past_number.Statement.{statement}
-use Rattle.rows.proofs.past_number.Tie as tie
+use Rattle.rows.proofs.store.past_number.Statement.{statement}
+use Rattle.rows.proofs.store.past_number.Tie as tie
 
 add-result : tie.Need-add-result
 add-result c = let l = ltb-false pasts (c .before .past .given .0 .0) (subst (λ (p : Past). pastBad p ≡ false) (c .before .past .given .1) (c .before .before .before .pre)) in omega arith

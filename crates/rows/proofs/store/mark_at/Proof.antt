@@ -5,8 +5,8 @@ use mathlib.Core.Path.{ap}
 use Rattle.frame.specs.declared.MarkBox.{MarkBox}
 use Rattle.rows.specs.View.{carriedAt, pastFrom, width}
 use Rattle.rows.proofs.Slots.{mark-read}
-use Rattle.rows.proofs.mark_at.Statement.{statement}
-use Rattle.rows.proofs.mark_at.Tie as tie
+use Rattle.rows.proofs.store.mark_at.Statement.{statement}
+use Rattle.rows.proofs.store.mark_at.Tie as tie
 
 returns : tie.Need-returns
 returns c =
