@@ -4,14 +4,14 @@ use lib.ListN.{length}
 use mathlib.Core.List.{List}
 use mathlib.Core.Path.{_≡_, refl}
 use Prim.Native.Nat.{ℕ}
-use Rattle.causality.specs.declared.MarkId.{MarkId}
+use Rattle.frame.specs.declared.MarkId.{MarkId}
 use Rattle.causality.specs.Meaning.{idOf}
 use Rattle.rows.specs.View.{carriedAt}
-use Rattle.executed.specs.Arrays.{Lending}
+use Rattle.rows.specs.Lending.{Lending}
 use Rattle.waiting.specs.declared.Waiting.{Waiting}
-use Rattle.pairs.specs.Pairs.{filled}
+use Rattle.pairs.specs.inner.Filled.{filled}
 use Rattle.concurrent.specs.Found.{ApartFound}
-use Rattle.queries.specs.Lent.{OfCount}
+use Rattle.queries.specs.inner.Lent.{OfCount}
 use Rattle.concurrent.specs.declared.ApartList.{ApartList}
 use Rattle.desk.specs.Lent.{apartLent, deskOf}
 use Rattle.desk.specs.StateOf.{Kept, stateOf}
@@ -19,7 +19,7 @@ use Rattle.desk.specs.declared.Desk.{Desk}
 use Rattle.desk.proofs.Invariant.{kept-lent, kept-sound}
 use Rattle.desk.proofs.LentPairs.{counted-by, lent-pairs}
 use Rattle.numbers.specs.Numbers.{countedNumbers}
-use Rattle.numbers.specs.declared.ApartAnswer.{ApartAnswer}
+use Rattle.numbers.specs.declared.ApartNumbers.{ApartNumbers}
 use Rattle.abi.specs.Exports.{ApartExport}
 
 -- A shared reference as an `ensures` has it.
@@ -37,7 +37,7 @@ module _ (count : ℕ) (ds ns ss ts ls bf : RefT (List ℕ)) (m : MarkId) where
   pub found-in : (room : ℕ) (found : ApartList) → Finds room found → (own : ℕ) (rest : List ℕ × List ℕ × List ℕ) (q : Waiting) → Kept (deskBy own rest q) → ApartFound (stateOf (deskBy own rest q)) (idOf m) room found
   found-in room found e own rest q k = e own (carriedAt (rest .0) (rest .1)) ((stateOf (deskBy own rest q)) .waiting) (kept-lent (deskBy own rest q) k) (kept-sound (deskBy own rest q) k)
 
-  pub lent-export : (out after : List MarkId) (found : ApartList) (r : ApartAnswer)
+  pub lent-export : (out after : List MarkId) (found : ApartList) (r : ApartNumbers)
       → Finds (length out) found → after ≡ filled out (found .list) (found .list .count) → countedNumbers (found .answer) ≡ (r .refusal, r .count) → ApartExport (apartLent count ds ns ss ts ls bf) m out after r
   lent-export out after found r e says h = record {
     answer = found .answer;

@@ -2,28 +2,28 @@
 ghost use Rattle.executed.specs.Arrays.{here, found, left};
 ghost use Rattle.in_place.specs.Lent.{MarkLent};
 ghost use Rattle.abi.specs.Exports.{NewExport, MarkExport};
-use crate::NewAnswer;
+use crate::NewNumbers;
 use desk::Desk;
 use frame::MarkBox;
-use numbers::MarkAnswer;
+use numbers::MarkNumbers;
 use rows::BOX;
 use rows::PLACES;
 use rows::WIDTH;
 
 #[no_mangle]
-pub extern "C" fn kaungimewe_new(own: u8) -> NewAnswer
+pub extern "C" fn kaungimewe_new(own: u8) -> NewNumbers
     ensures { λ r. ⌜ NewExport own r ⌝ }
 {
     let made = Desk::new(own);
     let desk = made.desk;
     let answer = made.answer;
-    NewAnswer {
+    NewNumbers {
         desk: desk,
         refusal: numbers::created(answer),
     }
 }
 
-// Where so many marks wait.
+// Where `waiting` marks wait.
 #[no_mangle]
 pub extern "C" fn kaungimewe_mark_lent(
     own: u8,
@@ -43,7 +43,7 @@ pub extern "C" fn kaungimewe_mark_lent(
     low: u32,
     high: u32,
     out: &mut [u8],
-) -> MarkAnswer
+) -> MarkNumbers
     requires { ⌜ MarkLent own waiting (here count desks numbers boxes pasts stamps tally heads last before) ⌝ }
     ensures { λ r. ⌜ MarkExport own waiting (found count desks numbers boxes pasts stamps tally heads last before)
         (left count desks numbers boxes pasts stamps tally heads last before) (record { start = start; end = end; low = low; high = high }) out r ⌝ }

@@ -3,21 +3,21 @@ ghost use mathlib.Core.Path.{_≡_};
 ghost use Rattle.causality.specs.Meaning.{idOf};
 ghost use Rattle.concurrent.specs.Found.{ApartFound};
 ghost use Rattle.evidence.specs.Found.{EvidenceFound};
-ghost use Rattle.queries.specs.Lent.{HasLent, OfCount, OfEach};
-ghost use Rattle.executed.specs.Rows.{Lent};
+ghost use Rattle.queries.specs.inner.Lent.{HasLent, OfCount, OfEach};
+ghost use Rattle.executed.specs.inner.Rows.{Lent};
 ghost use Rattle.in_place.specs.Lent.{SomeDesk, againLent};
 ghost use Rattle.desk.specs.Lent.{queryLent, apartLent, tablesLent};
 ghost use Rattle.abi.specs.Exports.{markId, RelateExport, EvidenceExport, ApartExport, PairTablesExport, FirstExport, AgainExport, ToSecondExport};
 ghost use Rattle.numbers.specs.Numbers.{countedNumbers, evidenceNumbers};
-use causality::MarkId;
 use concurrent::ApartList;
 use evidence::EvidenceList;
+use frame::MarkId;
 use frame::Number;
-use numbers::ApartAnswer;
-use numbers::EvidenceAnswer;
-use numbers::FirstAnswer;
-use numbers::RelateAnswer;
-use numbers::WriteAnswer;
+use numbers::ApartNumbers;
+use numbers::EvidenceNumbers;
+use numbers::FirstApartNumbers;
+use numbers::RelateNumbers;
+use numbers::WriteNumbers;
 use rows::BOX;
 use rows::PLACES;
 use rows::WIDTH;
@@ -43,7 +43,7 @@ pub extern "C" fn kaungimewe_relate_lent<'a>(
     n: u16,
     b: u8,
     m: u16,
-) -> RelateAnswer
+) -> RelateNumbers
     requires { ⌜ SomeDesk (queryLent desks numbers stamps tally last before) ⌝ }
     ensures { λ r. ⌜ RelateExport
         (queryLent (desks .entry) (numbers .entry) (stamps .entry) (tally .entry) (last .entry) (before .entry)) (markId a n) (markId b m) r ⌝ }
@@ -62,7 +62,7 @@ pub extern "C" fn kaungimewe_relate_lent<'a>(
     ))
 }
 
-// The evidence, where so many pairs are lent.
+// The evidence, where `lent` pairs are lent.
 fn find_evidence<'a>(
     desks: &'a [u8; PLACES],
     numbers: &'a [u16; PLACES],
@@ -94,7 +94,7 @@ fn find_evidence<'a>(
     )
 }
 
-fn evidence_of(found: EvidenceList) -> EvidenceAnswer
+fn evidence_of(found: EvidenceList) -> EvidenceNumbers
     ensures { λ r. ⌜ evidenceNumbers (found .answer) ≡ (r .refusal, r .relation, r .length, r .first, r .second) ⌝ }
 {
     let evidence = found.answer;
@@ -115,7 +115,7 @@ pub extern "C" fn kaungimewe_evidence_lent<'a>(
     b: u8,
     m: u16,
     out: &mut [MarkId],
-) -> EvidenceAnswer
+) -> EvidenceNumbers
     requires { ⌜ SomeDesk (queryLent desks numbers stamps tally last before) ⌝ }
     ensures { λ r. ⌜ EvidenceExport
         (queryLent (desks .entry) (numbers .entry) (stamps .entry) (tally .entry) (last .entry) (before .entry)) (markId a n) (markId b m)
@@ -138,7 +138,7 @@ pub extern "C" fn kaungimewe_evidence_lent<'a>(
     evidence_of(found)
 }
 
-// The marks apart, where there is room for so many.
+// The marks apart, where there is room for `room` of them.
 fn find_apart<'a>(
     desks: &'a [u8; PLACES],
     numbers: &'a [u16; PLACES],
@@ -168,7 +168,7 @@ fn find_apart<'a>(
     )
 }
 
-fn answer_of(found: ApartList) -> ApartAnswer
+fn answer_of(found: ApartList) -> ApartNumbers
     ensures { λ r. ⌜ countedNumbers (found .answer) ≡ (r .refusal, r .count) ⌝ }
 {
     let answer = found.answer;
@@ -188,7 +188,7 @@ pub extern "C" fn kaungimewe_apart_lent<'a>(
     a: u8,
     n: u16,
     out: &mut [MarkId],
-) -> ApartAnswer
+) -> ApartNumbers
     requires { ⌜ SomeDesk (apartLent count desks numbers stamps tally last before) ⌝ }
     ensures { λ r. ⌜ ApartExport
         (apartLent count (desks .entry) (numbers .entry) (stamps .entry) (tally .entry) (last .entry) (before .entry)) (markId a n)
@@ -217,7 +217,7 @@ pub extern "C" fn kaungimewe_pair_tables_lent<'a>(
     stamps: &'a [u16; PLACES * WIDTH],
     count: usize,
     out: &mut [u32],
-) -> ApartAnswer
+) -> ApartNumbers
     requires { ⌜ SomeDesk (tablesLent count desks numbers stamps) ⌝ }
     ensures { λ r. ⌜ PairTablesExport (tablesLent count (desks .entry) (numbers .entry) (stamps .entry)) (now (out .entry)) (now (out .exit)) r ⌝ }
 {
@@ -235,7 +235,7 @@ pub extern "C" fn kaungimewe_first_apart_lent<'a>(
     a: u8,
     n: u16,
     desk: u8,
-) -> FirstAnswer
+) -> FirstApartNumbers
     requires { ⌜ SomeDesk (queryLent desks numbers stamps tally last before) ⌝ }
     ensures { λ r. ⌜ FirstExport
         (queryLent (desks .entry) (numbers .entry) (stamps .entry) (tally .entry) (last .entry) (before .entry)) (markId a n) desk r ⌝ }
@@ -266,7 +266,7 @@ pub extern "C" fn kaungimewe_frame_again_lent<'a>(
     a: u8,
     n: u16,
     out: &mut [u8],
-) -> WriteAnswer
+) -> WriteNumbers
     requires { ⌜ SomeDesk (againLent desks numbers boxes pasts stamps tally last before) ⌝ }
     ensures { λ r. ⌜ AgainExport
         (againLent (desks .entry) (numbers .entry) (boxes .entry) (pasts .entry) (stamps .entry) (tally .entry) (last .entry) (before .entry))
@@ -299,7 +299,7 @@ pub extern "C" fn kaungimewe_to2_lent<'a>(
     before: &'a [u16; PLACES],
     frame: &[u8],
     out: &mut [u8],
-) -> WriteAnswer
+) -> WriteNumbers
     requires { ⌜ SomeDesk (againLent desks numbers boxes pasts stamps tally last before) ⌝ }
     ensures { λ r. ⌜ ToSecondExport
         (againLent (desks .entry) (numbers .entry) (boxes .entry) (pasts .entry) (stamps .entry) (tally .entry) (last .entry) (before .entry))

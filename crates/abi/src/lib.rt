@@ -8,7 +8,7 @@ use desk::Desk;
 
 // The refusal is 0 where there is none.
 #[repr(C)]
-pub struct NewAnswer {
+pub struct NewNumbers {
     pub desk: Desk,
     pub refusal: u8,
 }

@@ -3,7 +3,7 @@ ghost use Rattle.executed.specs.Arrays.{here, found, left};
 ghost use Rattle.waiting.specs.Queue.{here as heldHere, found as heldFound, left as heldLeft};
 ghost use Rattle.verdict.specs.Kept.{KeptIn};
 ghost use Rattle.abi.specs.Exports.{ReceiveExport};
-use numbers::ReceiveAnswer;
+use numbers::ReceiveNumbers;
 use rows::BOX;
 use rows::PLACES;
 use rows::WIDTH;
@@ -29,7 +29,7 @@ pub extern "C" fn kaungimewe_receive_lent(
     wpasts: &mut [u16; WAITING],
     wstamps: &mut [u16; WAITING * WIDTH],
     frame: &[u8],
-) -> ReceiveAnswer
+) -> ReceiveNumbers
     requires { ⌜ KeptIn own
         (here count desks numbers boxes pasts stamps tally heads last before) (heldHere waiting wdesks wnumbers wboxes wpasts wstamps) ⌝ }
     ensures { λ r. ⌜ ReceiveExport own

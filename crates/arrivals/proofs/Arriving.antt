@@ -1,6 +1,6 @@
 -- A mark that arrives, from the verdict to what comes of it. Assumes nothing.
-use Rattle.causality.specs.declared.Received.{Received as Receipt}
-use Rattle.causality.specs.declared.Received.the-variants.{Executed as ExecutedBoth}
+use Rattle.causality.specs.declared.ReceiveAnswer.{ReceiveAnswer as Receipt}
+use Rattle.causality.specs.declared.ReceiveAnswer.the-variants.{Executed as ExecutedBoth}
 use Prim.Native.Nat.{_<_, ℕ}
 use borrow.Author.Tests.{eqb-false}
 use lib.ListN.{length}
@@ -8,7 +8,7 @@ use mathlib.Core.List.{List, _∷_}
 use mathlib.Core.Path.{_∙_, _≡_, ap, sym}
 use native.Mathlib.Omega.{arith}
 use Rattle.frame.specs.Answer.{Answer, gives}
-use Rattle.frame.specs.Mark.{desks}
+use Rattle.frame.specs.Names.{desks}
 use Rattle.causality.specs.Answers.{Executed, Judgement, Waiting, executes, waits}
 use Rattle.causality.specs.Calls.{act, judge, release, rules}
 use Rattle.causality.specs.Kinds.{executingBy}
@@ -16,15 +16,17 @@ use Rattle.causality.specs.Marks.{waitingPlaces}
 use Rattle.causality.specs.Meaning.{reception}
 use Rattle.causality.specs.State.{Mark, State}
 use Rattle.causality.proofs.Cases.{judged-executes, judged-waits}
-use Rattle.causality.proofs.Fit.{Fit}
-use Rattle.rows.specs.View.{heldMark, heldWith}
+use Rattle.causality.specs.inner.Fit.{Fit}
+use Rattle.rows.specs.inner.Slots.{heldMark, heldWith}
 use Rattle.rows.specs.declared.Held.{Held}
-use Rattle.executed.specs.Arrays.{Arrays, Ordered, Takes, Took}
-use Rattle.waiting.specs.Queue.{Pushed, Queued, waitingIn}
+use Rattle.executed.specs.Arrays.{Arrays}
+use Rattle.executed.specs.inner.Takes.{Ordered, Takes, Took}
+use Rattle.waiting.specs.Queue.{waitingIn}
+use Rattle.waiting.specs.inner.Steps.{Pushed, Queued}
 use Rattle.waiting.specs.declared.Waiting.{Waiting as Queue}
 use Rattle.arrivals.specs.declared.Released.{Released}
 use Rattle.verdict.specs.Kept.{KeptIn, stateIn}
-use Rattle.arrivals.specs.Steps.{Arrived, Between, Midway, ReleasePromise}
+use Rattle.arrivals.specs.inner.Steps.{Arrived, Between, Midway, ReleasePromise}
 use Rattle.verdict.proofs.Invariant.{executed-length, kept-few, waiting-length}
 use Rattle.arrivals.proofs.Releasing.{between-arrived}
 

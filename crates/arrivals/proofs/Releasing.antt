@@ -10,18 +10,19 @@ use mathlib.Core.Option.{some}
 use mathlib.Core.Path.{_≡_, refl}
 use native.Mathlib.Omega.{arith}
 use Rattle.frame.specs.declared.Past.the-variants.{Unsaid}
-use Rattle.frame.specs.Mark.{desks}
+use Rattle.frame.specs.Names.{desks}
 use Rattle.causality.specs.Calls.{FromCalls, full, rules}
 use Rattle.causality.specs.Marks.{has, lowest, places, same, without}
 use Rattle.causality.specs.State.{Mark, State, falseStamp, ids, markId, ready, reckoned}
 use Rattle.causality.proofs.Cases.{Arrives}
-use Rattle.causality.proofs.Fit.{Fit}
-use Rattle.causality.proofs.Kept.{count-fit, fit-with, kept}
+use Rattle.causality.specs.inner.Fit.{Fit}
+use Rattle.causality.proofs.Invariant.{count-fit, fit-with, kept}
 use Rattle.causality.proofs.Lists.{all-map, lowest-picked, lowest-shorter, without-all}
 use Rattle.causality.proofs.Logic.{or-cases, same-refl, same→eq}
-use Rattle.causality.proofs.Reach.{Sound, execute-reach, follows-of}
+use Rattle.causality.proofs.Reach.{execute-reach, follows-of}
+use Rattle.causality.specs.inner.Order.{CausallyOrdered}
 use Rattle.waiting.proofs.DistinctLaws.{distinct-without, waiting-distinct}
-use Rattle.arrivals.specs.Steps.{Between}
+use Rattle.arrivals.specs.inner.Steps.{Between}
 
 -- The ready waiting mark of lowest desk is w.
 module _ (l ws : List Mark) (w : Mark) (m : Between l ws) (e : lowest markId (ready l) ws ≡ some w) where
@@ -50,7 +51,7 @@ module _ (l ws : List Mark) (w : Mark) (m : Between l ws) (e : lowest markId (re
         waiting = all-map (λ v x. x .0) (without markId (w .id) ws) (without-all markId (Fit desks) (w .id) ws (m .waiting));
       }
 
-  pub next-sound : falseStamp l w ≡ false → Sound (reckoned l w ∷ l)
+  pub next-sound : falseStamp l w ≡ false → CausallyOrdered (reckoned l w ∷ l)
   next-sound t = (follows-of l w (m .sound) (next-fit .range .first) next-fresh next-ready t, m .sound)
 
   pub between-executed : falseStamp l w ≡ false → Between (reckoned l w ∷ l) (without markId (w .id) ws)

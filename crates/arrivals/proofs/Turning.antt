@@ -1,5 +1,5 @@
 -- The loop of the release over the arrays: one turn, and what is kept from turn to turn. Assumes nothing.
-use Prim.Native.Nat.{_+_, _-_, _<_, _≤_, suc, ℕ}
+use Prim.Native.Nat.{_+_, _<_, _≤_, suc, ℕ}
 use lib.Dec.{T}
 use lib.ListN.{length}
 use mathlib.Core.Bool.{Bool, false, true}
@@ -7,26 +7,29 @@ use mathlib.Core.List.{List, _∷_}
 use mathlib.Core.Option.{some}
 use mathlib.Core.Path.{_∙_, _≡_, ap, sym}
 use native.Mathlib.Omega.{arith}
-use Rattle.frame.specs.Mark.{desks}
+use Rattle.frame.specs.Names.{desks}
 use Rattle.causality.specs.Calls.{release, rules}
 use Rattle.causality.specs.Marks.{has, lowest, places, tally, waitingPlaces, without}
 use Rattle.causality.specs.State.{Mark, falseStamp, ids, markId, ready, reckoned, withPast}
-use Rattle.causality.proofs.Fit.{Fit}
+use Rattle.causality.specs.inner.Fit.{Fit}
 use Rattle.causality.proofs.Logic.{nT→eq}
 use Rattle.causality.proofs.Reach.{sound-counted}
 use Rattle.causality.proofs.Releases.{release-drops, release-rests, release-runs}
-use Rattle.rows.specs.View.{Named, carriedAt, heldId, heldMark, heldWith, markAt, pastFrom, width}
+use Rattle.rows.specs.View.{carriedAt, markAt, pastFrom, width}
+use Rattle.rows.specs.inner.Slots.{Named, heldId, heldMark, heldWith}
 use Rattle.rows.specs.declared.Held.{Held}
 use Rattle.rows.proofs.Arrays.{view-length}
 use Rattle.rows.proofs.ByRows.{row-at}
 use Rattle.rows.proofs.Places.{ids-names}
-use Rattle.executed.specs.Arrays.{Arrays, Takes, Took, executedIn}
-use Rattle.waiting.specs.Queue.{LowestAt, Removed, waitingIn}
+use Rattle.executed.specs.Arrays.{Arrays, executedIn}
+use Rattle.executed.specs.inner.Takes.{Takes, Took}
+use Rattle.waiting.specs.Queue.{waitingIn}
+use Rattle.waiting.specs.inner.Steps.{LowestAt, Removed}
 use Rattle.waiting.specs.declared.Waiting.{Waiting}
 use Rattle.waiting.proofs.UseLaws.{fit-named, slot-found, slot-missed}
-use Rattle.verdict.specs.Judgement.{ReadyIn}
+use Rattle.verdict.specs.inner.Steps.{ReadyIn}
 use Rattle.arrivals.specs.declared.Released.{Released}
-use Rattle.arrivals.specs.Steps.{IsNext, Midway, ReleasePromise, Turned, Turns, droppedBy, executedBy}
+use Rattle.arrivals.specs.inner.Steps.{IsNext, Midway, ReleasePromise, Turned, Turns, droppedBy, executedBy}
 use Rattle.arrivals.proofs.Releasing.{between-dropped, between-executed, next-fit, next-fresh, next-ready, next-sound}
 
 -- As many marks as the counts say.

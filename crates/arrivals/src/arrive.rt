@@ -1,12 +1,13 @@
 // A mark that its frame gave: refused, known, set waiting, or executed with what it releases.
-ghost use Rattle.causality.proofs.Fit.{Fit};
-ghost use Rattle.rows.specs.View.{width, heldMark};
+ghost use Rattle.causality.specs.inner.Fit.{Fit};
+ghost use Rattle.rows.specs.View.{width};
+ghost use Rattle.rows.specs.inner.Slots.{heldMark};
 ghost use Rattle.executed.specs.Arrays.{here, found, left};
 ghost use Rattle.waiting.specs.Queue.{here as heldHere, found as heldFound, left as heldLeft};
 ghost use Rattle.verdict.specs.Kept.{KeptIn};
-ghost use Rattle.arrivals.specs.Steps.{Arrived};
+ghost use Rattle.arrivals.specs.inner.Steps.{Arrived};
 use crate::release;
-use causality::Received;
+use causality::ReceiveAnswer;
 use rows::BOX;
 use rows::Held;
 use rows::PLACES;
@@ -34,7 +35,7 @@ pub fn arrive(
     wpasts: &mut [u16; WAITING],
     wstamps: &mut [u16; WAITING * WIDTH],
     h: Held,
-) -> Received
+) -> ReceiveAnswer
     requires { ⌜ KeptIn own (here count desks numbers boxes pasts stamps tally heads last before) (heldHere waiting wdesks wnumbers wboxes wpasts wstamps)
         × Fit width (heldMark h) ⌝ }
     ensures { λ r. ⌜ Arrived own
@@ -62,13 +63,13 @@ pub fn arrive(
         wstamps,
         h,
     ) {
-        Verdict::Refused(refusal) => Received::Refused(refusal),
-        Verdict::Known => Received::Known,
+        Verdict::Refused(refusal) => ReceiveAnswer::Refused(refusal),
+        Verdict::Known => ReceiveAnswer::Known,
         Verdict::Waits(short) => {
             waiting::push(waiting, wdesks, wnumbers, wboxes, wpasts, wstamps, h);
-            Received::Waiting(short)
+            ReceiveAnswer::Waiting(short)
         }
-        Verdict::Runs(past) => {
+        Verdict::Executes(past) => {
             let kept = rows::store::with_past(h, past);
             executed::execute(
                 count,
@@ -101,7 +102,7 @@ pub fn arrive(
                 wpasts,
                 wstamps,
             );
-            Received::Executed(done.executed, done.dropped)
+            ReceiveAnswer::Executed(done.executed, done.dropped)
         }
     }
 }

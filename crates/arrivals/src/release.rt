@@ -1,7 +1,7 @@
 // The release: waiting marks that have become ready are executed, or dropped if their stamps are false.
 ghost use Rattle.executed.specs.Arrays.{here, found, left};
 ghost use Rattle.waiting.specs.Queue.{here as heldHere, found as heldFound, left as heldLeft};
-ghost use Rattle.arrivals.specs.Steps.{Midway, Turns, Turned, ReleasePromise};
+ghost use Rattle.arrivals.specs.inner.Steps.{Midway, Turns, Turned, ReleasePromise};
 use crate::Released;
 use rows::BOX;
 use rows::PLACES;

@@ -11,7 +11,7 @@ use Rattle.frame.specs.declared.Fields.{Fields}
 use Rattle.frame.specs.declared.MarkBox.{MarkBox}
 use Rattle.frame.specs.Answer.{Answer, gives, refuseIf, refused}
 use Rattle.frame.specs.Frame.{readFields}
-use Rattle.frame.specs.Mark.{boxRule}
+use Rattle.frame.specs.Names.{boxRule}
 use Rattle.frame.proofs.Tests.{passes}
 use Rattle.causality.specs.Answers.{Executed, Judgement, Known, Numbered, Reply, Waiting, executes, knows, waits}
 use Rattle.causality.specs.Calls.{andThen, full, judge, markAnswer, markIn, newMark, numbered, readMark, rules, sizeOfMark}

@@ -9,7 +9,7 @@ use mathlib.Core.Option.{Option, none, some}
 use mathlib.Core.Path.{_∙_, _≡_, ap, refl, subst, sym}
 use native.Mathlib.Omega.{arith}
 use Rattle.frame.specs.Answer.{Answer, gives, refuseIf, refused}
-use Rattle.frame.specs.Mark.{MarkId}
+use Rattle.frame.specs.Names.{MarkId}
 use Rattle.causality.specs.Answers.{After, Before, Concurrent, Evidence, Relation, Same, verdictOf}
 use Rattle.causality.specs.Calls.{andThen, isExecuted, relate}
 use Rattle.causality.specs.Kinds.{relateBy}
@@ -18,8 +18,9 @@ use Rattle.causality.specs.Marks.{All, any, find, has, keep, same, tally
 use Rattle.causality.specs.State.{Mark, State, ids, markId, precedes}
 use Rattle.causality.proofs.Lists.{Among, Lowest, absent-all, all-map, any-find, any-of, has-keep, has-self, keep-has, lowest-least}
 use Rattle.causality.proofs.Logic.{T→eq, and-fst, and-snd, bool-ext, nT→eq, or-cases, or-inl, or-inr, same-refl, same→eq, split}
-use Rattle.causality.proofs.Past.{Counted, Standing, behind-all, counted, fresh-of, precedes-past, prefix-has, prefix-le}
-use Rattle.causality.proofs.Reach.{Sound, local, not-new, precedes-at, precedes-listed, precedes-old, sound-counted}
+use Rattle.causality.proofs.Past.{Standing, behind-all, counted, fresh-of, precedes-past, prefix-has, prefix-le}
+use Rattle.causality.specs.inner.Order.{Consecutive, CausallyOrdered}
+use Rattle.causality.proofs.Reach.{local, not-new, precedes-at, precedes-listed, precedes-old, sound-counted}
 use Rattle.causality.proofs.Reckoning.{Once, among-le, counted-once, keep-once}
 use Rattle.causality.proofs.Shared.{tally-counts}
 use Rattle.causality.proofs.Tail.{past-first-run}
@@ -60,7 +61,7 @@ module _ (entries : MarkId → List MarkId) (before : MarkId → MarkId → Bool
   Back a b xs = ChainOf (λ f e. Taken entries before a e f) b a xs
 
   -- Where these are the stamps and the precedence of executed marks, the chain back from b ends at a and takes the entry that it must.
-  going-back : (l : List Mark) → Sound l → All (λ m. m .stamp ≡ entries (m .id)) l → ((i j : MarkId) → T (has j (ids l)) → precedes l i j ≡ before i j)
+  going-back : (l : List Mark) → CausallyOrdered l → All (λ m. m .stamp ≡ entries (m .id)) l → ((i j : MarkId) → T (has j (ids l)) → precedes l i j ≡ before i j)
       → (a b : MarkId) → T (has b (ids l)) → T (same a b || before a b) → Back a b (goingBack l a b)
   going-back [] s es ps a b tb t = absurd tb
   going-back (m ∷ older) s es ps a b tb t = go (split (same b (m .id))) (going-back older (s .1) (es .1) old a)
@@ -117,7 +118,7 @@ unfolding chain
 chain-length l a b = let q = back-length l a b in let e = length-reverse (goingBack l a b) in omega arith
 
 -- No entry of a is a or follows it.
-back-same : (l : List Mark) → Sound l → (a : MarkId) → T (has a (ids l)) → goingBack l a a ≡ a ∷ []
+back-same : (l : List Mark) → CausallyOrdered l → (a : MarkId) → T (has a (ids l)) → goingBack l a a ≡ a ∷ []
 back-same [] s a t = absurd t
 back-same (m ∷ older) s a t = go (split (same a (m .id))) (back-same older (s .1) a)
   where
@@ -136,7 +137,7 @@ back-same (m ∷ older) s a t = go (split (same a (m .id))) (back-same older (s 
     go (inl q) ih = rw (T→eq (same a (m .id)) q, goingBack) (last (entryTowards older a (m .stamp)) (entry-lowest older a (m .stamp)) q)
     go (inr q) ih = rw (nT→eq (same a (m .id)) q, goingBack) (ih (listed-old m older a t q))
 
-chain-same : (l : List Mark) → Sound l → (a : MarkId) → T (has a (ids l)) → chain l a a ≡ a ∷ []
+chain-same : (l : List Mark) → CausallyOrdered l → (a : MarkId) → T (has a (ids l)) → chain l a a ≡ a ∷ []
 unfolding chain
 chain-same l s a t = rw (back-same l s a t)
 
@@ -224,20 +225,20 @@ tally-keep d p (i ∷ is) f =
     go false false e g ih = ih
 
 -- What is kept of counted names, with a name all lower ones of its desk, is counted.
-keep-counted : (p : MarkId → Bool) (is : List MarkId) → Counted is
-    → ((i j : MarkId) → i .desk ≡ j .desk → 1 ≤ i .number → i .number < j .number → T (p j) → T (p i)) → Counted (keep p is)
+keep-counted : (p : MarkId → Bool) (is : List MarkId) → Consecutive is
+    → ((i j : MarkId) → i .desk ≡ j .desk → 1 ≤ i .number → i .number < j .number → T (p j) → T (p i)) → Consecutive (keep p is)
 keep-counted p [] c f = tt
 keep-counted p (x ∷ xs) c f = go (p x) refl (keep-counted p xs (c .1) f)
   where
     lower : T (p x) → (i : MarkId) → T (has i xs) → x .desk ≡ i .desk → T (p i)
     lower t i h e = let q = prefix-le xs (c .1) i h in let n : x .number ≡ suc (tally (i .desk) xs) = rw (← e) (c .0) in f i x (sym e) (q .0) (omega arith) t
 
-    go : (b : Bool) → p x ≡ b → Counted (keep p xs) → Counted (cond b (x ∷ keep p xs) (keep p xs))
+    go : (b : Bool) → p x ≡ b → Consecutive (keep p xs) → Consecutive (cond b (x ∷ keep p xs) (keep p xs))
     go true e ih = (c .0 ∙ ap suc (sym (tally-keep (x .desk) p xs (lower (rw e tt)))), ih)
     go false e ih = ih
 
 -- Of a desk's marks, those up to the count precede.
-pub told-by-count : (l : List Mark) → Sound l → (i b : MarkId) → T (has i (ids l)) → precedes l i b ≡ leb (i .number) (inPast l (i .desk) b)
+pub told-by-count : (l : List Mark) → CausallyOrdered l → (i b : MarkId) → T (has i (ids l)) → precedes l i b ≡ leb (i .number) (inPast l (i .desk) b)
 unfolding inPast
 told-by-count l s i b t = bool-ext (precedes l i b) (leb (i .number) (inPast l (i .desk) b))
     (λ u. le→leb (i .number) (inPast l (i .desk) b) (prefix-le (keep p (ids l)) k i (has-keep p (ids l) i t u) .1))
@@ -246,18 +247,18 @@ told-by-count l s i b t = bool-ext (precedes l i b) (leb (i .number) (inPast l (
     p : MarkId → Bool
     p i = precedes l i b
 
-    c : Counted (ids l)
+    c : Consecutive (ids l)
     c = sound-counted l s
 
-    k : Counted (keep p (ids l))
+    k : Consecutive (keep p (ids l))
     k = keep-counted p (ids l) c (past-first-run l s b)
 
 -- "below the marks' own numbers".
-in-past-below : (l : List Mark) → Sound l → (a b : MarkId) → T (has a (ids l)) → T (not (precedes l a b)) → inPast l (a .desk) b < a .number
+in-past-below : (l : List Mark) → CausallyOrdered l → (a b : MarkId) → T (has a (ids l)) → T (not (precedes l a b)) → inPast l (a .desk) b < a .number
 in-past-below l s a b t n = nleb→lt (a .number) (inPast l (a .desk) b) (rw (told-by-count l s a b t) at n)
 
 -- Of two concurrent marks both counts.
-pub counts-below : (st : State) → Sound (st .executed) → (a b : MarkId) → relate st a b ≡ gives Concurrent
+pub counts-below : (st : State) → CausallyOrdered (st .executed) → (a b : MarkId) → relate st a b ≡ gives Concurrent
     → (inPast (st .executed) (a .desk) b < a .number) × (inPast (st .executed) (b .desk) a < b .number)
 counts-below st s a b e =
     let c : Case (st .executed) a b (gives Concurrent) = rw e at (relate-case st a b) in
@@ -291,7 +292,7 @@ module _ (entries : MarkId → List MarkId) (before : MarkId → MarkId → Bool
     pub precedence : (a b : MarkId) → T (has b (ids l)) → precedes l a b ≡ before a b
     pub counts : (d : ℕ) (b : MarkId) → T (has b (ids l)) → inPast l d b ≡ count d b
 
-  module _ (l : List Mark) (s : Sound l) (g : Agrees l) where
+  module _ (l : List Mark) (s : CausallyOrdered l) (g : Agrees l) where
     chain-holds : (a b : MarkId) → T (has b (ids l)) → T (precedes l a b) → ChainOf (Taken entries before a) a b (chain l a b)
     unfolding chain
     chain-holds a b tb t = chain-turned (Taken entries before a) a b b (goingBack l a b) []
@@ -313,7 +314,7 @@ module _ (entries : MarkId → List MarkId) (before : MarkId → MarkId → Bool
     behind-of a b After c = refl
     behind-of a b Concurrent c = rw (g .counts (a .desk) b (c .1), g .counts (b .desk) a (c .0))
 
-  pub proves : (st : State) → Sound (st .executed) → Agrees (st .executed) → (a b : MarkId) (lent : List MarkId)
+  pub proves : (st : State) → CausallyOrdered (st .executed) → Agrees (st .executed) → (a b : MarkId) (lent : List MarkId)
       → Proves entries before count (relate st a b) a b lent (evidence st a b (length lent)) (evidencePairs st a b lent)
   unfolding evidence evidenceChain evidencePairs
   proves st s g a b lent = record {
@@ -335,7 +336,7 @@ module _ (entries : MarkId → List MarkId) (before : MarkId → MarkId → Bool
 -- AT A DESK
 
 -- Each executed mark is the one of its name.
-stamps-of : (l : List Mark) → Sound l → All (λ m. m .stamp ≡ stampOf l (m .id)) l
+stamps-of : (l : List Mark) → CausallyOrdered l → All (λ m. m .stamp ≡ stampOf l (m .id)) l
 stamps-of [] s = tt
 stamps-of (m ∷ older) s = (
   rw (T→eq (same (m .id) (m .id)) (same-refl (m .id)), stampOf, find) refl,
@@ -347,5 +348,5 @@ stamps-of (m ∷ older) s = (
         let n = not-T (same (w .id) (m .id)) (λ t. T-not (same (m .id) (w .id)) (x .1) (rw (same→eq (w .id) (m .id) t) (same-refl (m .id)))) in
         rw (nT→eq (same (w .id) (m .id)) n, stampOf, find) (x .0)
 
-pub desk-agrees : (l : List Mark) → Sound l → Agrees (stampOf l) (precedes l) (inPast l) l
+pub desk-agrees : (l : List Mark) → CausallyOrdered l → Agrees (stampOf l) (precedes l) (inPast l) l
 desk-agrees l s = record { stamps = stamps-of l s; precedence = λ a b t. refl; counts = λ d b t. refl }

@@ -10,7 +10,7 @@ use Rattle.frame.specs.declared.Past.{Past}
 use Rattle.frame.specs.declared.Past.the-variants.{Said, Unsaid}
 use Rattle.frame.specs.Answer.{Answer, gives, refused}
 use Rattle.frame.specs.Frame.{at2, at4, bytes2, bytes4, countBad, entriesBad, entriesOf, entryBad, fieldsBad, fieldsOf, frameOf, headOf, lengthBad, outputShort, partBad, pastIn, readEntries, readFields, versionBad, writeSize}
-use Rattle.frame.specs.Mark.{MarkId, boxRule, desks, isDesk, isNumber}
+use Rattle.frame.specs.Names.{MarkId, boxRule, desks, isDesk, isNumber}
 use Rattle.causality.specs.Answers.{After, Before, Concurrent, Evidence, Executed, Known, Numbered, Relation, Reply, Same, Waiting}
 use Rattle.causality.specs.Calls.{apartOf, fieldsOfMark, firstApart, frameAgainBytes, frameAgainSize, frameOfMark, full, mark, markIn, new, newMark, readMark, receive, relate, sameFields, sizeOfMark, toFirstBytes, toFirstMark, toFirstSize, toSecondBytes, toSecondMark, toSecondSize, unmade}
 use Rattle.causality.specs.Kinds.{admitBy, executingBy, judgeBy, markAnswerOf, markOf, newOf, receiveOf, relateBy}

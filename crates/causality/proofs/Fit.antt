@@ -13,7 +13,7 @@ use Rattle.frame.specs.declared.Fields.{Fields}
 use Rattle.frame.specs.declared.MarkBox.{MarkBox}
 use Rattle.frame.specs.Answer.{gives, refuseIf}
 use Rattle.frame.specs.Frame.{editionOf, entriesBad, entriesOf, entryBad, entryBytes, fieldsBad, fieldsOf, outputShort, partBad, pastBad, pastIn, readEntries, readFields, writeSize}
-use Rattle.frame.specs.Mark.{MarkId, boxRule, isDesk, isNumber, numbers}
+use Rattle.frame.specs.Names.{MarkId, boxRule, isDesk, isNumber, numbers}
 use Rattle.frame.specs.RoundTrip.{AreBytes}
 use Rattle.frame.proofs.Entries.{entries-back, entry-bytes-back, entry-bytes-length}
 use Rattle.frame.proofs.RoundTrip.{PartsPass, Writable, accepted, frame-back, frame-length, frame-read}
@@ -23,24 +23,10 @@ use Rattle.causality.specs.Marks.{has, same}
 use Rattle.causality.specs.State.{Mark, sameCount}
 use Rattle.causality.proofs.Lists.{has-self}
 use Rattle.causality.proofs.Logic.{T→eq, and-fst, and-snd, and-true, or-cases, or-inr, same-refl, same→eq}
-use Rattle.causality.proofs.Numbers.{Strict}
+use Rattle.causality.specs.inner.Order.{Strict}
+use Rattle.causality.specs.inner.Fit.{Fit, Range}
 
 module _ (N : ℕ) where
-  pub record Range (i : MarkId) : Type 0 where
-    pub low : 1 ≤ i .desk
-    pub high : i .desk ≤ N
-    pub first : 1 ≤ i .number
-    pub last : i .number ≤ numbers
-
-  pub record Fit (m : Mark) : Type 0 where
-    pub range : Range (m .id)
-    pub rule : boxRule (m .extent) ≡ true
-    pub strict : Strict (m .stamp)
-    pub entries : (e : MarkId) → T (has e (m .stamp)) → Range e
-    pub earlier : (e : MarkId) → T (has e (m .stamp)) → e .desk ≡ m .id .desk → e .number < m .id .number
-    pub count : length (m .stamp) ≤ N
-    pub past : pastBad (m .past) ≡ false
-
   -- Strictly rising desks from 1 to N are at most N.
   pub strict-count : (lo : ℕ) (xs : List MarkId) → lo ≤ N → Strict xs → ((e : MarkId) → T (has e xs) → lo < e .desk) → ((e : MarkId) → T (has e xs) → e .desk ≤ N) → length xs + lo ≤ N
   strict-count lo [] p s f g = omega arith
@@ -67,14 +53,14 @@ module _ (N : ℕ) where
   unfolding isNumber
   number-test n p q = search tests
 
-  range-of : (i : MarkId) → isDesk N (i .desk) ≡ true → isNumber (i .number) ≡ true → Range i
+  range-of : (i : MarkId) → isDesk N (i .desk) ≡ true → isNumber (i .number) ≡ true → Range N i
   range-of i d n = let p = desk-facts (i .desk) d in let q = number-facts (i .number) n in record { low = p .0; high = p .1; first = q .0; last = q .1 }
 
   -- What condition 6 asks of entries behind one of the desk `last`, in a frame of mark desk.number.
   record EntriesGood (desk number last : ℕ) (es : List MarkId) : Type 0 where
     strict : Strict es
     above : (e : MarkId) → T (has e es) → last < e .desk
-    range : (e : MarkId) → T (has e es) → Range e
+    range : (e : MarkId) → T (has e es) → Range N e
     earlier : (e : MarkId) → T (has e es) → e .desk ≡ desk → e .number < number
 
   entries-facts : (desk number last : ℕ) (es : List MarkId) → entriesBad N desk number last es ≡ false → EntriesGood desk number last es
@@ -123,7 +109,7 @@ module _ (N : ℕ) where
         earlier = λ e t. g .earlier e (or-inr (same e x) (has e xs) t);
       }))
     where
-      r : Range x
+      r : Range N x
       r = g .range x (has-self x xs)
 
       own : (eqb (x .desk) desk && leb number (x .number)) ≡ false
@@ -136,7 +122,7 @@ module _ (N : ℕ) where
   -- FRAMES
 
   -- A frame that passes the reader carries such a mark.
-  pub frame-fit : (s : List ℕ) (f : Fields) → readFields N s ≡ gives f → Fit (markIn N s)
+  pub frame-fit : (s : List ℕ) (f : Fields) → readFields N s ≡ gives f → Fit N (markIn N s)
   unfolding markIn readEntries fieldsBad
   frame-fit s f h =
       let a = accepted N s f h .0 in
@@ -156,7 +142,7 @@ module _ (N : ℕ) where
         past = r .1;
       })
 
-  fit-parts : (m : Mark) → Fit m → PartsPass N (fieldsOfMark m) (entryBytes (m .stamp))
+  fit-parts : (m : Mark) → Fit N m → PartsPass N (fieldsOfMark m) (entryBytes (m .stamp))
   unfolding fieldsOfMark fieldsBad
   fit-parts m f = let r = f .range in record {
     fields = rw (desk-test (m .id .desk) (r .low) (r .high), number-test (m .id .number) (r .first) (r .last), f .rule, f .past);
@@ -168,7 +154,7 @@ module _ (N : ℕ) where
   abbrev pub markSize : Mark → ℕ
   markSize m = editionOf (m .past) .head + 3 * length (m .stamp)
 
-  fit-writable : (m : Mark) → Fit m → (lent : ℕ) → markSize m ≤ lent → Writable N (fieldsOfMark m) (entryBytes (m .stamp)) lent
+  fit-writable : (m : Mark) → Fit N m → (lent : ℕ) → markSize m ≤ lent → Writable N (fieldsOfMark m) (entryBytes (m .stamp)) lent
   unfolding fieldsOfMark
   fit-writable m f lent h = let n = entry-bytes-length (m .stamp) in let c = f .count in record {
     whole = omega arith;
@@ -178,7 +164,7 @@ module _ (N : ℕ) where
   }
 
   -- The writer refuses such a mark only for want of room.
-  pub fit-size : (m : Mark) → Fit m → (lent : ℕ) → sizeOfMark N m lent ≡ refuseIf (ltb lent (markSize m)) 13 (gives (markSize m))
+  pub fit-size : (m : Mark) → Fit N m → (lent : ℕ) → sizeOfMark N m lent ≡ refuseIf (ltb lent (markSize m)) 13 (gives (markSize m))
   unfolding sizeOfMark writeSize partBad outputShort fieldsOfMark
   fit-size m f lent =
       let p = fit-parts m f in
@@ -195,16 +181,16 @@ module _ (N : ℕ) where
   pub fit-front : (m : Mark) (rest : List ℕ) → take (markSize m) (frameOfMark m ++ rest) ≡ frameOfMark m
   fit-front m rest = take-at (frameOfMark m) rest (markSize m) (fit-frame-length m)
 
-  pub fit-read : (m : Mark) → Fit m → readFields N (frameOfMark m) ≡ gives (fieldsOfMark m)
+  pub fit-read : (m : Mark) → Fit N m → readFields N (frameOfMark m) ≡ gives (fieldsOfMark m)
   unfolding frameOfMark
   fit-read m f = frame-read N (fieldsOfMark m) (entryBytes (m .stamp)) (markSize m) (fit-writable m f (markSize m) (omega arith)) .0
 
-  pub fit-entries : (m : Mark) → Fit m → entriesOf (readEntries N (frameOfMark m)) ≡ m .stamp
+  pub fit-entries : (m : Mark) → Fit N m → entriesOf (readEntries N (frameOfMark m)) ≡ m .stamp
   unfolding frameOfMark
   fit-entries m f = ap entriesOf (frame-read N (fieldsOfMark m) (entryBytes (m .stamp)) (markSize m) (fit-writable m f (markSize m) (omega arith)) .1) ∙ entries-back (m .stamp)
 
   -- Its frame spells it.
-  pub fit-back : (m : Mark) → Fit m → markIn N (frameOfMark m) ≡ m
+  pub fit-back : (m : Mark) → Fit N m → markIn N (frameOfMark m) ≡ m
   unfolding markIn fieldsOfMark
   fit-back m f =
       let g : fieldsOf (frameOfMark m) ≡ fieldsOfMark m = accepted N (frameOfMark m) (fieldsOfMark m) (fit-read m f) .1 in
@@ -212,7 +198,7 @@ module _ (N : ℕ) where
       λ i. record { id = record { desk = g i .desk; number = g i .number .0 }; extent = g i .extent; stamp = e i; past = g i .past }
 
   -- Equal bytes are equal marks, and the mark that accepted bytes spell has these bytes.
-  pub equal-bytes : (h : Mark) (s : List ℕ) → Fit h → frameOfMark h ≡ s → h ≡ markIn N s
+  pub equal-bytes : (h : Mark) (s : List ℕ) → Fit N h → frameOfMark h ≡ s → h ≡ markIn N s
   equal-bytes h s f e = sym (fit-back h f) ∙ ap (markIn N) e
 
   pub accepted-bytes : (s : List ℕ) (f : Fields) → AreBytes s → readFields N s ≡ gives f → frameOfMark (markIn N s) ≡ s

@@ -4,7 +4,7 @@ use mathlib.Core.Bool.{Bool, false, true}
 use mathlib.Core.List.{List, [], _∷_, map}
 use mathlib.Core.Option.{Option, Option·map, none, some}
 use mathlib.Core.Path.{_∙_, _≡_, refl}
-use Rattle.frame.specs.Mark.{MarkId}
+use Rattle.frame.specs.Names.{MarkId}
 use Rattle.causality.specs.Marks.{All, find, lower, lowest, same, without}
 
 module _ {A B : Type 0} (nameA : A → MarkId) (nameB : B → MarkId) (image : A → B) (named : (x : A) → nameB (image x) ≡ nameA x) where

@@ -8,7 +8,7 @@ use mathlib.Core.List.{List, [], _∷_}
 use mathlib.Core.Logic.{inl, inr}
 use mathlib.Core.Path.{_∙_, _≡_, refl, sym}
 use native.Mathlib.Omega.{arith}
-use Rattle.frame.specs.Mark.{MarkId}
+use Rattle.frame.specs.Names.{MarkId}
 use Rattle.causality.specs.Marks.{all, has, keep}
 use Rattle.causality.specs.State.{Mark, ids, lacksPrevious, missing, missingEntries, previous, ready}
 use Rattle.causality.proofs.Lists.{all-at}

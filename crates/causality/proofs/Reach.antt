@@ -1,5 +1,5 @@
 -- Any desk from New, Mark and Receive, whatever frames it was lent.
-use Prim.Native.Nat.{_-_, _<_, _≤_, suc, ℕ}
+use Prim.Native.Nat.{_-_, _≤_, suc, ℕ}
 use lib.Dec.{T, T-not, eqb, eqb-refl, leb, ltb, lt→ltb, nltb→le, not-T}
 use lib.ListN.{length}
 use mathlib.Core.Bool.{Bool, _&&_, _||_, false, not, true}
@@ -10,7 +10,7 @@ use native.Mathlib.Omega.{arith}
 use Rattle.frame.specs.declared.MarkBox.{MarkBox}
 use Rattle.frame.specs.declared.Past.the-variants.{Said}
 use Rattle.frame.specs.Answer.{Answer, gives, refused}
-use Rattle.frame.specs.Mark.{MarkId}
+use Rattle.frame.specs.Names.{MarkId}
 use Rattle.frame.proofs.Tests.{or-false}
 use Rattle.causality.specs.Answers.{Judgement, Numbered}
 use Rattle.causality.specs.Calls.{act, execute, mark, markAnswer, newMark, receiveMark, release, rules, stateIf, unmade}
@@ -21,22 +21,12 @@ use Rattle.causality.proofs.Cases.{Arrives, JudgeCase, judge-case, to-e
 use Rattle.causality.proofs.Lists.{absent-all, all-at, all-map, any-cong, any-find, any-of, find-has, has-append, has-keep, has-self, map-append, ids-length, keep-has, lowest-picked, nor-fst, nor-snd, without-all}
 use Rattle.causality.proofs.Logic.{T→eq, and-fst, and-intro, bool-ext, nT→eq, or-cases, or-inl, or-inr, same-refl, same→eq, split}
 use Rattle.causality.proofs.Numbers.{ready-next}
-use Rattle.causality.proofs.Past.{Counted, Good, Standing, fresh-of, has-heads, head-in, head-out, heads-has, no-self, prefix-has, top-exists}
+use Rattle.causality.proofs.Past.{Good, Standing, fresh-of, has-heads, head-in, head-out, heads-has, no-self, prefix-has, top-exists}
+use Rattle.causality.specs.inner.Order.{Consecutive, Follows, CausallyOrdered}
 use Rattle.causality.proofs.Reckoning.{among-le, counted-once, keep-once, reckoning-of}
 use Rattle.causality.proofs.Releases.{release-keeps, others}
 
-pub record Follows (m : Mark) (older : List Mark) : Type 0 where
-  pub next : m .id .number ≡ suc (tally (m .id .desk) (ids older))
-  pub listed : (e : MarkId) → T (has e (m .stamp)) → T (has e (ids older))
-  pub clear : (e f : MarkId) → T (has e (m .stamp)) → T (has f (m .stamp)) → T (precedes older e f) → ⊥
-  pub prev : 1 < m .id .number → T (any (λ e. same (previous (m .id)) e || precedes older (previous (m .id)) e) (m .stamp))
-  pub count : m .past ≡ Said (reckoning (m ∷ older) (m .id))
-
-abbrev pub Sound : List Mark → Type 0
-Sound [] = Unit {0}
-Sound (m ∷ older) = Follows m older × Sound older
-
-pub sound-counted : (l : List Mark) → Sound l → Counted (ids l)
+pub sound-counted : (l : List Mark) → CausallyOrdered l → Consecutive (ids l)
 sound-counted [] s = tt
 sound-counted (m ∷ older) s = (s .0 .next, sound-counted older (s .1))
 
@@ -47,10 +37,10 @@ precedes-at m older a b t = rw (T→eq (same b (m .id)) t, precedes)
 pub precedes-old : (m : Mark) (older : List Mark) (a b : MarkId) → T (not (same b (m .id))) → precedes (m ∷ older) a b ≡ precedes older a b
 precedes-old m older a b t = rw (nT→eq (same b (m .id)) t, precedes)
 
-pub not-new : (m : Mark) (older : List Mark) → Sound (m ∷ older) → (b : MarkId) → T (has b (ids older)) → T (not (same b (m .id)))
+pub not-new : (m : Mark) (older : List Mark) → CausallyOrdered (m ∷ older) → (b : MarkId) → T (has b (ids older)) → T (not (same b (m .id)))
 not-new m older s b t = not-T (same b (m .id)) (λ u. fresh-of (m .id) (ids older) (sound-counted (m ∷ older) s) (rw (same→eq b (m .id) u) at t))
 
-pub precedes-listed : (l : List Mark) → Sound l → (a b : MarkId) → T (precedes l a b) → T (has a (ids l)) × T (has b (ids l))
+pub precedes-listed : (l : List Mark) → CausallyOrdered l → (a b : MarkId) → T (precedes l a b) → T (has a (ids l)) × T (has b (ids l))
 precedes-listed [] s a b t = absurd t
 precedes-listed (m ∷ older) s a b t = go (split (same b (m .id))) (precedes-listed older (s .1) a)
   where
@@ -68,7 +58,7 @@ precedes-listed (m ∷ older) s a b t = go (split (same b (m .id))) (precedes-li
         )
     go (inr u) ih = let r = ih b (rw (precedes-old m older a b u) at t) in (up a (r .0), up b (r .1))
 
-pub precedes-trans : (l : List Mark) → Sound l → (a b c : MarkId) → T (precedes l a b) → T (precedes l b c) → T (precedes l a c)
+pub precedes-trans : (l : List Mark) → CausallyOrdered l → (a b c : MarkId) → T (precedes l a b) → T (precedes l b c) → T (precedes l a c)
 precedes-trans [] s a b c p q = absurd p
 precedes-trans (m ∷ older) s a b c p q = go (split (same c (m .id))) (precedes-trans older (s .1) a b)
   where
@@ -88,7 +78,7 @@ precedes-trans (m ∷ older) s a b c p q = go (split (same c (m .id))) (precedes
         rw (precedes-old m older a c u) (ih c (down ((precedes-listed older (s .1) b c n) .0)) n)
 
 -- a sound desk has pasts: the chains themselves
-pub sound-hist : (past : MarkId → List MarkId) (l : List Mark) → Sound l
+pub sound-hist : (past : MarkId → List MarkId) (l : List Mark) → CausallyOrdered l
     → ((a b : MarkId) → T (has b (ids l)) → has a (past b) ≡ precedes l a b) → Standing past l
 sound-hist past [] s ag = tt
 sound-hist past (m ∷ older) s ag = (record { good = good; next = f .next; behind = behind }, sound-hist past older (s .1) ag′)
@@ -137,18 +127,18 @@ sound-hist past (m ∷ older) s ag = (record { good = good; next = f .next; behi
 abbrev pub local : List Mark → MarkId → List MarkId
 local l b = keep (λ a. precedes l a b) (ids l)
 
-pub local-precedes : (l : List Mark) → Sound l → (a b : MarkId) → has a (local l b) ≡ precedes l a b
+pub local-precedes : (l : List Mark) → CausallyOrdered l → (a b : MarkId) → has a (local l b) ≡ precedes l a b
 local-precedes l s a b = bool-ext (has a (local l b)) (precedes l a b) (λ t. (keep-has (λ a. precedes l a b) (ids l) a t) .1)
     (λ t. has-keep (λ a. precedes l a b) (ids l) a ((precedes-listed l s a b t) .0) t)
 
-pub local-hist : (l : List Mark) → Sound l → Standing (local l) l
+pub local-hist : (l : List Mark) → CausallyOrdered l → Standing (local l) l
 local-hist l s = sound-hist (local l) l s (λ a b t. local-precedes l s a b)
 
-pub precedes-self : (l : List Mark) → Sound l → (a : MarkId) → T (precedes l a a) → ⊥
+pub precedes-self : (l : List Mark) → CausallyOrdered l → (a : MarkId) → T (precedes l a a) → ⊥
 precedes-self l s a t = no-self (local l) l (local-hist l s) a ((precedes-listed l s a a t) .0) (rw (local-precedes l s a a) t)
 
 -- Fewer marks than are behind it precede a mark, or as many; and it is not reckoned anew as the list grows.
-pub reckoning-le : (m : Mark) (older : List Mark) → Sound (m ∷ older) → reckoning (m ∷ older) (m .id) ≤ length older
+pub reckoning-le : (m : Mark) (older : List Mark) → CausallyOrdered (m ∷ older) → reckoning (m ∷ older) (m .id) ≤ length older
 unfolding reckoning
 reckoning-le m older s =
     let c = sound-counted (m ∷ older) s in
@@ -157,23 +147,23 @@ reckoning-le m older s =
     let n = ids-length older in
     omega arith
 
-reckoning-old : (m : Mark) (older : List Mark) → Sound (m ∷ older) → (i : MarkId) → T (has i (ids older)) → reckoning (m ∷ older) i ≡ reckoning older i
+reckoning-old : (m : Mark) (older : List Mark) → CausallyOrdered (m ∷ older) → (i : MarkId) → T (has i (ids older)) → reckoning (m ∷ older) i ≡ reckoning older i
 unfolding reckoning
 reckoning-old m older s i t = reckoning-of (m ∷ older) i (local older i) (counted-once (ids (m ∷ older)) c) (keep-once (λ a. precedes older a i) (ids older) (counted-once (ids older) (c .1)))
     (λ a u. rw (local-precedes older (s .1) a i, ← precedes-old m older a i n) u)
     (λ a u. let v = keep-has (λ a. precedes older a i) (ids older) a u in (or-inr (same a (m .id)) (has a (ids older)) (v .0), rw (precedes-old m older a i n) (v .1)))
   where
-    c : Counted (ids (m ∷ older))
+    c : Consecutive (ids (m ∷ older))
     c = sound-counted (m ∷ older) s
 
     n : T (not (same i (m .id)))
     n = not-new m older s i t
 
 -- what is said of the past of each executed mark is the reckoning
-pub sound-reckoned : (l : List Mark) → Sound l → All (λ m. m .past ≡ Said (reckoning l (m .id))) l
+pub sound-reckoned : (l : List Mark) → CausallyOrdered l → All (λ m. m .past ≡ Said (reckoning l (m .id))) l
 sound-reckoned l s = down l s (λ i t. refl)
   where
-    down : (k : List Mark) → Sound k → ((i : MarkId) → T (has i (ids k)) → reckoning l i ≡ reckoning k i) → All (λ m. m .past ≡ Said (reckoning l (m .id))) k
+    down : (k : List Mark) → CausallyOrdered k → ((i : MarkId) → T (has i (ids k)) → reckoning l i ≡ reckoning k i) → All (λ m. m .past ≡ Said (reckoning l (m .id))) k
     down [] s f = tt
     down (m ∷ older) s f = (
       s .0 .count ∙ ap Said (sym (f (m .id) (has-self (m .id) (ids older)))),
@@ -181,7 +171,7 @@ sound-reckoned l s = down l s (λ i t. refl)
     )
 
 -- a new mark follows just what its desk had executed
-pub new-after : (d : State) (box : MarkBox) → Sound (d .executed) → (a : MarkId) → T (precedes (newMark d box ∷ d .executed) a (newMark d box .id)) ↔ T (has a (ids (d .executed)))
+pub new-after : (d : State) (box : MarkBox) → CausallyOrdered (d .executed) → (a : MarkId) → T (precedes (newMark d box ∷ d .executed) a (newMark d box .id)) ↔ T (has a (ids (d .executed)))
 unfolding newMark
 new-after d box s a = rw (T→eq (same i i) (same-refl i), precedes) (there, back)
   where
@@ -208,7 +198,7 @@ new-after d box s a = rw (T→eq (same i i) (same-refl i), precedes) (there, bac
         any-of (λ e. same a e || precedes l a e) (heads l) (r .top) (has-heads (local l) l (r .top) (r .listed) (head-in (local l) l h (r .top) (r .last)))
         (rw (← local-precedes l s a (r .top)) (r .below))
 
-pub new-reckoning : (d : State) (box : MarkBox) → Sound (d .executed) → reckoning (newMark d box ∷ d .executed) (newMark d box .id) ≡ length (d .executed)
+pub new-reckoning : (d : State) (box : MarkBox) → CausallyOrdered (d .executed) → reckoning (newMark d box ∷ d .executed) (newMark d box .id) ≡ length (d .executed)
 unfolding newMark
 new-reckoning d box s =
     reckoning-of (newMark d box ∷ d .executed) (newMark d box .id) (ids (d .executed)) (counted-once (ids (newMark d box ∷ d .executed)) (refl, c)) (counted-once (ids (d .executed)) c)
@@ -216,10 +206,10 @@ new-reckoning d box s =
     (λ a t. (or-inr (same a (newMark d box .id)) (has a (ids (d .executed))) t, new-after d box s a .1 t))
     ∙ ids-length (d .executed)
   where
-    c : Counted (ids (d .executed))
+    c : Consecutive (ids (d .executed))
     c = sound-counted (d .executed) s
 
-pub mark-sound : (d : State) (box : MarkBox) → Sound (d .executed) → Follows (newMark d box) (d .executed)
+pub mark-sound : (d : State) (box : MarkBox) → CausallyOrdered (d .executed) → Follows (newMark d box) (d .executed)
 unfolding newMark previous
 mark-sound d box s = record {
   next = refl;
@@ -242,7 +232,7 @@ mark-sound d box s = record {
     h : Standing past l
     h = local-hist l s
 
-pub follows-of : (l : List Mark) (m : Mark) → Sound l → 1 ≤ m .id .number → T (not (has (m .id) (ids l))) → T (ready l m) → falseStamp l m ≡ false → Follows (reckoned l m) l
+pub follows-of : (l : List Mark) (m : Mark) → CausallyOrdered l → 1 ≤ m .id .number → T (not (has (m .id) (ids l))) → T (ready l m) → falseStamp l m ≡ false → Follows (reckoned l m) l
 unfolding ready falseStamp falseEntries reckoning
 follows-of l m s p n t e = record {
   next = ready-next l m (sound-counted l s) p n t;
@@ -274,10 +264,10 @@ module _ (own : ℕ) where
 
   -- what every desk is
   pub record Reach (l ws : List Mark) : Type 0 where
-    pub sound : Sound l
+    pub sound : CausallyOrdered l
     pub wait : All (Wait l) ws
 
-  grown : (l ws : List Mark) (w : Mark) → Follows w l → Sound l → All (λ v. Wait l v × T (not (same (w .id) (v .id)))) ws → Reach (w ∷ l) ws
+  grown : (l ws : List Mark) (w : Mark) → Follows w l → CausallyOrdered l → All (λ v. Wait l v × T (not (same (w .id) (v .id)))) ws → Reach (w ∷ l) ws
   grown l ws w f s a = record { sound = (f, s); wait = all-map (λ v x. record { pos = x .0 .pos; fresh = other v x; away = x .0 .away; asks = λ e te q. or-inr (same e (w .id)) (has e (ids l)) (x .0 .asks e te q) }) ws a }
     where
       other : (v : Mark) → Wait l v × T (not (same (w .id) (v .id))) → T (not (has (v .id) (w .id ∷ ids l)))

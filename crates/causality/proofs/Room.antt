@@ -9,7 +9,7 @@ use mathlib.Core.Path.{_≡_, ap, refl}
 use native.Mathlib.Omega.{arith}
 use Rattle.frame.specs.declared.MarkBox.{MarkBox}
 use Rattle.frame.specs.Answer.{Answer, gives, refused}
-use Rattle.frame.specs.Mark.{MarkId}
+use Rattle.frame.specs.Names.{MarkId}
 use Rattle.causality.specs.Answers.{Judgement, Numbered}
 use Rattle.causality.specs.Calls.{act, execute, full, mark, markAnswer, newMark, receiveMark, rules, stateIf}
 use Rattle.causality.specs.Kinds.{executingBy, markOf}

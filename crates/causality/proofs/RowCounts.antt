@@ -7,14 +7,15 @@ use mathlib.Core.List.{List, [], _∷_}
 use mathlib.Core.Logic.{inl, inr}
 use mathlib.Core.Path.{_∙_, _≡_, ap, refl, subst, sym}
 use native.Mathlib.Omega.{arith}
-use Rattle.frame.specs.Mark.{MarkId}
+use Rattle.frame.specs.Names.{MarkId}
 use Rattle.causality.specs.Marks.{has, keep, same, tally}
 use Rattle.causality.specs.State.{Mark, ids, precedes, reckoning}
 use Rattle.causality.proofs.Apart.{past-counts}
 use Rattle.causality.proofs.Lists.{has-self, keep-cong}
 use Rattle.causality.proofs.Logic.{nT→eq, or-inr, split}
-use Rattle.causality.proofs.Past.{Counted, prefix-le, tally-same}
-use Rattle.causality.proofs.Reach.{Sound, local-hist, local-precedes, precedes-self, sound-counted}
+use Rattle.causality.proofs.Past.{prefix-le, tally-same}
+use Rattle.causality.specs.inner.Order.{Consecutive, CausallyOrdered}
+use Rattle.causality.proofs.Reach.{local-hist, local-precedes, precedes-self, sound-counted}
 use Rattle.causality.specs.inner.Passes.{rowOf, under}
 use Rattle.causality.specs.inner.Upto.{sumTo}
 use Rattle.causality.proofs.Upto.{sum-cong, sum-one, sum-zero}
@@ -27,7 +28,7 @@ tally-other d i is n = go (eqb d (i .desk)) refl
     go false e = refl
 
 -- How many of the marks a row covers.
-sum-counts : (n : ℕ) (r : ℕ → ℕ) (is : List MarkId) → Counted is → ((i : MarkId) → T (has i is) → (1 ≤ i .desk) × (i .desk ≤ n))
+sum-counts : (n : ℕ) (r : ℕ → ℕ) (is : List MarkId) → Consecutive is → ((i : MarkId) → T (has i is) → (1 ≤ i .desk) × (i .desk ≤ n))
     → length (keep (λ a. leb (a .number) (r (a .desk))) is) ≡ sumTo n (λ d. min (r d) (tally d is))
 sum-counts n r [] c f = sym (sum-zero n (λ d. min (r d) 0) (λ d. omega arith))
 sum-counts n r (i ∷ is) c f = go (leb (i .number) (r (i .desk))) refl (sum-counts n r is (c .1) (λ j t. f j (or-inr (same j i) (has j is) t)))
@@ -66,7 +67,7 @@ sum-counts n r (i ∷ is) c f = go (leb (i .number) (r (i .desk))) refl (sum-cou
         ])
 
 -- "by rows, the sum of the past row": two rows that together are that of the newest mark's entries, after the pass.
-module _ (m : Mark) (older : List Mark) (so : Sound (m ∷ older)) (s r : ℕ → ℕ) (all : (d : ℕ) → max (s d) (r d) ≡ rowOf (m .stamp) d) where
+module _ (m : Mark) (older : List Mark) (so : CausallyOrdered (m ∷ older)) (s r : ℕ → ℕ) (all : (d : ℕ) → max (s d) (r d) ≡ rowOf (m .stamp) d) where
   abbrev row : ℕ → ℕ
   row d = max (s d) (under older s r d)
 

@@ -10,7 +10,7 @@ use mathlib.Core.Option.{Option, none, some}
 use mathlib.Core.Path.{_≡_, ap, refl}
 use native.Mathlib.Omega.{arith}
 use Rattle.frame.specs.declared.MarkBox.{MarkBox}
-use Rattle.frame.specs.Mark.{MarkId, boxRule, numbers}
+use Rattle.frame.specs.Names.{MarkId, boxRule, numbers}
 use Rattle.causality.specs.Marks.{All, find, insert, keep, places, rising, same, tally, without}
 use Rattle.causality.proofs.Lists.{all-map}
 use Rattle.causality.proofs.Logic.{and-fst, and-intro, and-snd}

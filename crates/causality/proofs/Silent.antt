@@ -7,7 +7,7 @@ use mathlib.Core.List.{List, _∷_}
 use mathlib.Core.Path.{_∙_, _≡_, refl}
 use Rattle.frame.specs.declared.MarkBox.{MarkBox}
 use Rattle.frame.specs.Answer.{Answer, gives, refused}
-use Rattle.frame.specs.Mark.{MarkId}
+use Rattle.frame.specs.Names.{MarkId}
 use Rattle.causality.specs.Answers.{Judgement, Numbered}
 use Rattle.causality.specs.Calls.{FromCalls, Later, act, begun, execute, mark, markAnswer, markIn, marked, newMark, received, release, rules, stateIf}
 use Rattle.causality.specs.Kinds.{executingBy, markOf, receiveOf}
@@ -15,11 +15,12 @@ use Rattle.causality.specs.Marks.{any, has, same}
 use Rattle.causality.specs.Silent.{SilentLeaves, SilentLeavesLater, names}
 use Rattle.causality.specs.State.{Mark, State, heads, ids, isHead, precedes, reckoned}
 use Rattle.causality.proofs.Cases.{JudgeCase, received-case, to-execute, to-know, to-refuse, to-wait}
-use Rattle.causality.proofs.Kept.{kept}
+use Rattle.causality.proofs.Invariant.{kept}
 use Rattle.causality.proofs.Lists.{any-find, any-of}
 use Rattle.causality.proofs.Logic.{or-inr}
 use Rattle.causality.proofs.Past.{heads-has}
-use Rattle.causality.proofs.Reach.{Sound, local, not-new, precedes-old}
+use Rattle.causality.proofs.Reach.{local, not-new, precedes-old}
+use Rattle.causality.specs.inner.Order.{CausallyOrdered}
 use Rattle.causality.proofs.Releases.{release-keeps}
 
 -- AS IT STANDS
@@ -77,7 +78,7 @@ newer-has : {l k : List Mark} → Newer l k → (a : MarkId) → T (has a (ids l
 newer-has none-newer a t = t
 newer-has (one-newer {k} m n) a t = or-inr (same a (m .id)) (has a (ids k)) (newer-has n a t)
 
-newer-precedes : {l k : List Mark} → Newer l k → Sound k → (a b : MarkId) → T (has b (ids l)) → precedes k a b ≡ precedes l a b
+newer-precedes : {l k : List Mark} → Newer l k → CausallyOrdered k → (a b : MarkId) → T (has b (ids l)) → precedes k a b ≡ precedes l a b
 newer-precedes none-newer s a b t = refl
 newer-precedes (one-newer {k} m n) s a b t = precedes-old m k a b (not-new m k s b (newer-has n b t)) ∙ newer-precedes n (s .1) a b t
 
@@ -91,7 +92,7 @@ from-later N c (received p s) = received (from-later N c p) s
 pub silent-leaves-later : (N : ℕ) → 1 ≤ N → {st : State} → FromCalls N st → SilentLeavesLater N st
 silent-leaves-later N some-desk {st} from d m f later p u =
     let n = later-newer N p in
-    let s : Sound (later .executed) = kept N some-desk (from-later N from p) .reach .sound in
+    let s : CausallyOrdered (later .executed) = kept N some-desk (from-later N from p) .reach .sound in
     silent-leaves later d m (record {
       listed = newer-has n m (f .listed);
       other = f .other;

@@ -9,7 +9,7 @@ use mathlib.Core.Path.{_∙_, _≡_, ap, refl, sym}
 use native.Mathlib.Nat.{mul-le-mul, mul-suc, suc-mul}
 use native.Mathlib.Numerals.{sub-one}
 use native.Mathlib.Omega.{arith}
-use Rattle.frame.specs.Mark.{MarkId}
+use Rattle.frame.specs.Names.{MarkId}
 use Rattle.causality.specs.Evidence.{inPast}
 use Rattle.causality.specs.Marks.{has, keep, places, same, tally}
 use Rattle.causality.specs.State.{Mark, concurrent, ids, precedes}
@@ -19,7 +19,8 @@ use Rattle.causality.proofs.Lists.{has-self, keep-cong, tally-length}
 use Rattle.causality.proofs.Logic.{T→eq, nT→eq, or-inr, same-refl, same→eq, split}
 use Rattle.causality.proofs.Numbers.{own-past}
 use Rattle.causality.proofs.Past.{fresh-of, prefix-le}
-use Rattle.causality.proofs.Reach.{Sound, local, local-hist, local-precedes, not-new, precedes-listed, precedes-old, precedes-self, sound-counted}
+use Rattle.causality.proofs.Reach.{local, local-hist, local-precedes, not-new, precedes-listed, precedes-old, precedes-self, sound-counted}
+use Rattle.causality.specs.inner.Order.{CausallyOrdered}
 
 -- COUNTING PAIRS
 
@@ -98,7 +99,7 @@ tally-none d p (x ∷ xs) f = rw (f x) (tally-none d p xs f)
 
 -- THE NEWEST MARK
 
-module _ (m : Mark) (older : List Mark) (s : Sound (m ∷ older)) where
+module _ (m : Mark) (older : List Mark) (s : CausallyOrdered (m ∷ older)) where
   -- It precedes none.
   new-last : (y : MarkId) → precedes (m ∷ older) (m .id) y ≡ false
   new-last y = nT→eq (precedes (m ∷ older) (m .id) y) (not-T (precedes (m ∷ older) (m .id) y) (λ t. elim (split (same y (m .id))) [
@@ -207,7 +208,7 @@ pairs-most R xs i j = total-most (λ y. tally j (keep (R y) xs)) (tally j xs) (�
 
 -- THE LAWS
 
-pub apart-symmetric : (l : List Mark) → Sound l → (i j : ℕ) → pairsApart l i j ≡ pairsApart l j i
+pub apart-symmetric : (l : List Mark) → CausallyOrdered l → (i j : ℕ) → pairsApart l i j ≡ pairsApart l j i
 unfolding pairsApart
 apart-symmetric [] s i j = refl
 apart-symmetric (m ∷ older) s i j =
@@ -216,7 +217,7 @@ apart-symmetric (m ∷ older) s i j =
     let ih = apart-symmetric older (s .1) i j in
     omega arith
 
-none-apart : (l : List Mark) → Sound l → (i : ℕ) → pairsApart l i i ≡ 0
+none-apart : (l : List Mark) → CausallyOrdered l → (i : ℕ) → pairsApart l i i ≡ 0
 unfolding pairsApart
 none-apart [] s i = refl
 none-apart (m ∷ older) s i = go (eqb i (m .id .desk)) refl (apart-grows m older s i i) (none-apart older (s .1) i)
@@ -228,7 +229,7 @@ none-apart (m ∷ older) s i = go (eqb i (m .id .desk)) refl (apart-grows m olde
         omega arith
     go false q a ih = omega arith
 
-own-before : (l : List Mark) → Sound l → (i : ℕ) → pairsBefore l i i ≡ tally i (ids l) * (tally i (ids l) - 1) / 2
+own-before : (l : List Mark) → CausallyOrdered l → (i : ℕ) → pairsBefore l i i ≡ tally i (ids l) * (tally i (ids l) - 1) / 2
 unfolding pairsBefore
 own-before [] s i = refl
 own-before (m ∷ older) s i = go (eqb i (m .id .desk)) refl (before-grows m older s i i) (own-before older (s .1) i)
@@ -249,7 +250,7 @@ own-before (m ∷ older) s i = go (eqb i (m .id .desk)) refl (before-grows m old
         omega arith
     go false q a ih = omega arith
 
-all-pairs : (l : List Mark) → Sound l → (i j : ℕ) → (i ≡ j → ⊥) → pairsApart l i j + pairsBefore l i j + pairsBefore l j i ≡ tally i (ids l) * tally j (ids l)
+all-pairs : (l : List Mark) → CausallyOrdered l → (i j : ℕ) → (i ≡ j → ⊥) → pairsApart l i j + pairsBefore l i j + pairsBefore l j i ≡ tally i (ids l) * tally j (ids l)
 unfolding pairsApart pairsBefore
 all-pairs [] s i j ne = refl
 all-pairs (m ∷ older) s i j ne =
@@ -288,7 +289,7 @@ pub before-most : (l : List Mark) → length l ≤ places → (i j : ℕ) → pa
 unfolding pairsBefore
 before-most l f = few-pairs (precedes l) l f
 
-pub pair-laws : (l : List Mark) → Sound l → length l ≤ places → PairLaws l
+pub pair-laws : (l : List Mark) → CausallyOrdered l → length l ≤ places → PairLaws l
 pair-laws l s f = record {
   all-pairs = all-pairs l s;
   none-apart = none-apart l s;

@@ -5,7 +5,7 @@ use mathlib.Core.Bool.{_&&_, false, not}
 use mathlib.Core.List.{List, [], _∷_}
 use mathlib.Core.Logic.{_⊎_, inl, inr}
 use mathlib.Core.Path.{_∙_, _≡_, ap}
-use Rattle.frame.specs.Mark.{MarkId}
+use Rattle.frame.specs.Names.{MarkId}
 use Rattle.causality.specs.Calls.{earlier, lowestNumber}
 use Rattle.causality.specs.Marks.{has, keep, same, tally}
 use Rattle.causality.specs.State.{Mark, concurrent, ids, precedes}
@@ -13,8 +13,9 @@ use Rattle.causality.specs.Tail.{ApartIsTail, PastIsFirstRun}
 use Rattle.causality.proofs.Apart.{lowest-above, lowestAbove}
 use Rattle.causality.proofs.Logic.{T→eq, nT→eq, not-leb, or-inr, same→eq, split}
 use Rattle.causality.proofs.Numbers.{own-past}
-use Rattle.causality.proofs.Past.{Counted, fresh-of, prefix-le}
-use Rattle.causality.proofs.Reach.{Sound, local, local-hist, local-precedes, not-new, precedes-listed, precedes-old, precedes-trans, sound-counted}
+use Rattle.causality.proofs.Past.{fresh-of, prefix-le}
+use Rattle.causality.specs.inner.Order.{Consecutive, CausallyOrdered}
+use Rattle.causality.proofs.Reach.{local, local-hist, local-precedes, not-new, precedes-listed, precedes-old, precedes-trans, sound-counted}
 
 -- What stands behind the newest mark, where that is a, or another.
 behind : (a i : MarkId) (is : List MarkId) → T (same a i) → earlier a (i ∷ is) ≡ is
@@ -23,7 +24,7 @@ behind a i is t = rw (T→eq (same a i) t, earlier)
 further : (a i : MarkId) (is : List MarkId) → T (not (same a i)) → earlier a (i ∷ is) ≡ earlier a is
 further a i is t = rw (nT→eq (same a i) t, earlier)
 
-earlier-counted : (a : MarkId) (is : List MarkId) → Counted is → Counted (earlier a is)
+earlier-counted : (a : MarkId) (is : List MarkId) → Consecutive is → Consecutive (earlier a is)
 earlier-counted a [] c = tt
 earlier-counted a (i ∷ is) c = elim (split (same a i)) [ inl t ↦ rw (behind a i is t) (c .1) | inr t ↦ rw (further a i is t) (earlier-counted a is (c .1)) ]
 
@@ -33,7 +34,7 @@ record Before (l : List Mark) (a j : MarkId) : Type 0 where
   other : same a j ≡ false
   no-follower : precedes l a j ≡ false
 
-earlier-before : (l : List Mark) → Sound l → (a j : MarkId) → T (has j (earlier a (ids l))) → Before l a j
+earlier-before : (l : List Mark) → CausallyOrdered l → (a j : MarkId) → T (has j (earlier a (ids l))) → Before l a j
 earlier-before [] s a j t = absurd t
 earlier-before (m ∷ older) s a j t = go (split (same a (m .id))) (earlier-before older (s .1) a j)
   where
@@ -56,7 +57,7 @@ earlier-before (m ∷ older) s a j t = go (split (same a (m .id))) (earlier-befo
         let b = ih (rw (further a (m .id) (ids older) u) at t) in
         record { listed = up (b .listed); other = b .other; no-follower = old (b .listed) ∙ b .no-follower }
 
-module _ (l : List Mark) (s : Sound l) (a : MarkId) where
+module _ (l : List Mark) (s : CausallyOrdered l) (a : MarkId) where
   -- Of the marks executed before a, those that do not precede it are apart from it.
   apart-earlier : (j : MarkId) → T (has j (earlier a (ids l))) → concurrent l a j ≡ not (precedes l j a)
   unfolding concurrent
@@ -78,7 +79,7 @@ module _ (l : List Mark) (s : Sound l) (a : MarkId) where
       → lowestNumber d (keep (concurrent l a) (earlier a (ids l))) ≡ lowestAbove R (tally d (earlier a (ids l)))
   first-of-run d R run = lowest-above d R (concurrent l a) (earlier a (ids l)) c above
     where
-      c : Counted (earlier a (ids l))
+      c : Consecutive (earlier a (ids l))
       c = earlier-counted a (ids l) (sound-counted l s)
 
       above : (i : MarkId) → T (has i (earlier a (ids l))) → i .desk ≡ d → concurrent l a i ≡ ltb R (i .number)

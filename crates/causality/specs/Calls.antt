@@ -7,7 +7,7 @@ use Prim.Native.Nat.{ℕ, zero, suc, min}
 use lib.Dec.{ltb, eqb}
 use lib.ListN.{length}
 use Rattle.frame.specs.Answer.{Answer, gives, refused, refuseIf}
-use Rattle.frame.specs.Mark.{MarkId, isDesk}
+use Rattle.frame.specs.Names.{MarkId, isDesk}
 use Rattle.frame.specs.Frame.{entriesOf, entryBytes, fieldsOf, frameOf, readFields, readEntries, writeSize, overIf}
 use Rattle.frame.specs.declared.Fields.{Fields}
 use Rattle.frame.specs.declared.MarkBox.{MarkBox}
@@ -143,7 +143,7 @@ isExecuted st i = has i (ids (st .executed))
 unfoldable pub apartOf : State → MarkId → List MarkId
 apartOf st a = reverse (keep (concurrent (st .executed) a) (ids (st .executed)))
 
--- "The count is returned": with so many lent pairs.
+-- "The count is returned": with `lent` lent pairs.
 unfoldable pub apartCount : State → MarkId → ℕ → Answer ℕ
 apartCount st a lent =
     refuseIf (not (isExecuted st a)) 12 (refuseIf (ltb lent (length (apartOf st a))) 13 (gives (length (apartOf st a))))

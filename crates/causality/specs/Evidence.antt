@@ -8,7 +8,7 @@ use lib.Dec.{T, ltb}
 use lib.ListN.{length}
 use Rattle.frame.specs.Answer.{Answer, gives, refused, refuseIf}
 use Rattle.frame.specs.Frame.{overIf}
-use Rattle.frame.specs.Mark.{MarkId}
+use Rattle.frame.specs.Names.{MarkId}
 use Rattle.causality.specs.Answers.{Evidence, Relation, Same, Before, After, Concurrent, verdictOf}
 use Rattle.causality.specs.Calls.{andThen, relate}
 use Rattle.causality.specs.Marks.{find, has, keep, lowest, same, tally}
@@ -53,7 +53,7 @@ behind executed a b Concurrent = Concurrent (inPast executed (a .desk) b) (inPas
 
 -- THE CALL
 
--- "12 and 13 as elsewhere", with so many lent pairs.
+-- "12 and 13 as elsewhere", with `lent` lent pairs.
 unfoldable pub evidence : State → MarkId → MarkId → ℕ → Answer Evidence
 evidence st a b lent =
     andThen (relate st a b) (λ r. refuseIf (ltb lent (length (chainFor (st .executed) a b r))) 13 (gives (behind (st .executed) a b r)))

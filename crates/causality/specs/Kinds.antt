@@ -8,7 +8,7 @@ use lib.Dec.{eqb}
 use lib.ListN.{length}
 use Rattle.frame.specs.Answer.{Answer, gives, refused, refuseIf}
 use Rattle.frame.specs.Frame.{overIf}
-use Rattle.frame.specs.Mark.{MarkId, isDesk, boxRule}
+use Rattle.frame.specs.Names.{MarkId, isDesk, boxRule}
 use Rattle.frame.specs.declared.MarkBox.{MarkBox}
 use Rattle.causality.specs.Answers.{Numbered, Judgement, knows, waits, executes, Reply, Known, Waiting, Executed, Relation, Same, Before, After, Concurrent}
 use Rattle.causality.specs.Marks.{places, waitingPlaces, same, has, find, without, lowest}

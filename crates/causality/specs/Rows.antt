@@ -3,7 +3,7 @@ use Prim.Native.Nat.{ℕ, suc, zero}
 use lib.Dec.{ltb}
 use mathlib.Core.Bool.{false, true}
 use mathlib.Core.List.{List, [], _∷_}
-use Rattle.frame.specs.Mark.{MarkId}
+use Rattle.frame.specs.Names.{MarkId}
 
 -- The entries of a row at k desks from d: (desk, number) where the number is not 0.
 abbrev pub entriesFrom : (ℕ → ℕ) → ℕ → ℕ → List MarkId

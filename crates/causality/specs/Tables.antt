@@ -7,7 +7,7 @@ use lib.Dec.{eqb, ltb}
 use lib.ListN.{getD, length}
 use Rattle.frame.specs.Answer.{Answer, gives, refuseIf}
 use Rattle.frame.specs.Frame.{overIf}
-use Rattle.frame.specs.Mark.{MarkId}
+use Rattle.frame.specs.Names.{MarkId}
 use Rattle.causality.specs.Marks.{keep, tally}
 use Rattle.causality.specs.State.{Mark, State, concurrent, ids, precedes}
 

@@ -8,18 +8,19 @@ use mathlib.Core.List.{List, _∷_}
 use mathlib.Core.Path.{_∙_, _≡_, ap, refl, sym}
 use native.Mathlib.Numerals.{add-one, sub-one}
 use native.Mathlib.Omega.{arith}
-use Rattle.frame.specs.Mark.{MarkId}
+use Rattle.frame.specs.Names.{MarkId}
 use Rattle.causality.specs.Marks.{has, keep, places, same}
 use Rattle.causality.specs.State.{concurrent, ids, precedes}
 use Rattle.causality.specs.inner.Upto.{someReached}
 use Rattle.causality.proofs.Logic.{not-leb}
-use Rattle.causality.proofs.Reach.{Sound}
+use Rattle.causality.specs.inner.Order.{CausallyOrdered}
 use Rattle.pairs.specs.Pairs.{Spare}
 use Rattle.pairs.specs.declared.Listed.{Listed}
 use Rattle.pairs.proofs.Longer.{longer, longer-names, longer-spare}
-use Rattle.rows.specs.View.{Carried, nameAt, namesDown, rowFn, view}
+use Rattle.rows.specs.View.{Carried, nameAt, namesDown, view}
+use Rattle.rows.specs.inner.Slots.{rowFn}
 use Rattle.rows.proofs.Places.{has-at, ids-names}
-use Rattle.concurrent.specs.Steps.{Tells}
+use Rattle.concurrent.specs.inner.Steps.{Tells}
 use Rattle.causality.proofs.Upto.{any-more, any-none}
 
 -- THE TEST
@@ -56,7 +57,7 @@ module _ (n : ℕ) (ds ns ss : List ℕ) (count : ℕ) (first past : List ℕ) w
   pub record Both (p : ℕ) : Type 0 where
     pub inside : p < count
     pub follows : Tells n ds ns ss p count first
-    pub precede : (bs : ℕ → Carried) → Sound (view n count ds ns bs ss) → (i : MarkId) → T (has i (ids (view n count ds ns bs ss)))
+    pub precede : (bs : ℕ → Carried) → CausallyOrdered (view n count ds ns bs ss) → (i : MarkId) → T (has i (ids (view n count ds ns bs ss)))
         → precedes (view n count ds ns bs ss) i (nameAt ds ns p) ≡ leb (i .number) (rowFn past (i .desk))
 
   -- Of the first q marks those apart from that of which the rows tell are listed.
@@ -64,7 +65,7 @@ module _ (n : ℕ) (ds ns ss : List ℕ) (count : ℕ) (first past : List ℕ) w
     pub turns : q ≤ count
     pub small : list .count ≤ q
     pub spare : Spare list
-    pub names : (p : ℕ) → Both p → (bs : ℕ → Carried) → Sound (view n count ds ns bs ss)
+    pub names : (p : ℕ) → Both p → (bs : ℕ → Carried) → CausallyOrdered (view n count ds ns bs ss)
         → namesDown (list .count) (list .desks) (list .numbers) ≡ keep (concurrent (view n count ds ns bs ss) (nameAt ds ns p)) (ids (view n q ds ns bs ss))
 
   module _ (q : ℕ) (list : Listed) (v : ApartTo q list) (l : q < count) where
@@ -75,7 +76,7 @@ module _ (n : ℕ) (ds ns ss : List ℕ) (count : ℕ) (first past : List ℕ) w
     abbrev above : Bool
     above = ltb (rowFn past (getD ds q 0)) (getD ns q 0)
 
-    apart-is : (p : ℕ) → Both p → (bs : ℕ → Carried) → Sound (view n count ds ns bs ss) → concurrent (view n count ds ns bs ss) (nameAt ds ns p) (nameAt ds ns q) ≡ (not follows && above)
+    apart-is : (p : ℕ) → Both p → (bs : ℕ → Carried) → CausallyOrdered (view n count ds ns bs ss) → concurrent (view n count ds ns bs ss) (nameAt ds ns p) (nameAt ds ns q) ≡ (not follows && above)
     unfolding concurrent view
     apart-is p w bs s =
         let a = nameAt ds ns p in
@@ -88,7 +89,7 @@ module _ (n : ℕ) (ds ns ss : List ℕ) (count : ℕ) (first past : List ℕ) w
         either true b c = refl
         either false b c = refl
 
-    step-names : (b : Bool) → (not follows && above) ≡ b → (p : ℕ) → Both p → (bs : ℕ → Carried) → Sound (view n count ds ns bs ss)
+    step-names : (b : Bool) → (not follows && above) ≡ b → (p : ℕ) → Both p → (bs : ℕ → Carried) → CausallyOrdered (view n count ds ns bs ss)
         → let P = concurrent (view n count ds ns bs ss) (nameAt ds ns p) in
         keep P (ids (view n (q + 1) ds ns bs ss)) ≡ cond b (nameAt ds ns q ∷ keep P (ids (view n q ds ns bs ss))) (keep P (ids (view n q ds ns bs ss)))
     unfolding view
@@ -130,7 +131,7 @@ module _ (n : ℕ) (ds ns ss : List ℕ) (count : ℕ) (first past : List ℕ) w
   apart-none list e x = record { turns = omega arith; small = omega arith; spare = x; names = λ p w bs s. rw e refl }
 
   pub apart-all : (q : ℕ) (list : Listed) → ApartTo q list → count ≤ q → (p : ℕ) → Both p
-      → (list .count ≤ count) × Spare list × ((bs : ℕ → Carried) → Sound (view n count ds ns bs ss)
+      → (list .count ≤ count) × Spare list × ((bs : ℕ → Carried) → CausallyOrdered (view n count ds ns bs ss)
       → namesDown (list .count) (list .desks) (list .numbers) ≡ keep (concurrent (view n count ds ns bs ss) (nameAt ds ns p)) (ids (view n count ds ns bs ss)))
   apart-all q list v h p w =
       let t = v .turns in

@@ -9,14 +9,15 @@ use mathlib.Core.List.{List}
 use mathlib.Core.Path.{_∙_, _≡_, ap, refl, subst, sym}
 use native.Mathlib.Numerals.{add-one}
 use native.Mathlib.Omega.{arith}
-use Rattle.frame.specs.Mark.{MarkId}
+use Rattle.frame.specs.Names.{MarkId}
 use Rattle.causality.specs.Marks.{same}
 use Rattle.causality.specs.State.{Mark, precedes}
 use Rattle.causality.proofs.Apart.{follower-new, followers, noted, reached-by-row, reachedBy}
 use Rattle.causality.specs.inner.Upto.{someReached}
 use Rattle.causality.proofs.Upto.{any-to-cong}
-use Rattle.causality.proofs.Reach.{Sound}
-use Rattle.rows.specs.View.{Carried, markAt, rowAt, rowFn, view}
+use Rattle.causality.specs.inner.Order.{CausallyOrdered}
+use Rattle.rows.specs.View.{Carried, markAt, rowAt, view}
+use Rattle.rows.specs.inner.Slots.{rowFn}
 use Rattle.rows.proofs.Arrays.{sound-below}
 use Rattle.rows.proofs.Places.{precedes-no-earlier, precedes-there}
 use Rattle.rows.proofs.Slots.{zeros}
@@ -50,7 +51,7 @@ module _ (n : ℕ) (ds ns ss : List ℕ) (count p : ℕ) where
   -- A row has the first followers of the mark at p among the first q.
   pub record Noted (q : ℕ) (first : List ℕ) : Type 0 where
     pub long : length first ≡ n
-    pub rows : (bs : ℕ → Carried) → Sound (view n count ds ns bs ss) → (d : ℕ) → 1 ≤ d → d ≤ n → rowFn first d ≡ followers given (view n q ds ns bs ss) d
+    pub rows : (bs : ℕ → Carried) → CausallyOrdered (view n count ds ns bs ss) → (d : ℕ) → 1 ≤ d → d ≤ n → rowFn first d ≡ followers given (view n q ds ns bs ss) d
 
   -- Among no marks there is none.
   pub noted-none : Noted 0 (replicate n 0)
@@ -62,7 +63,7 @@ module _ (n : ℕ) (ds ns ss : List ℕ) (count p : ℕ) where
     abbrev pub names : Bool
     names = eqb p q || someReached n (rowFn first) (rowAt n ss q)
 
-    module _ (bs : ℕ → Carried) (s : Sound (view n count ds ns bs ss)) where
+    module _ (bs : ℕ → Carried) (s : CausallyOrdered (view n count ds ns bs ss)) where
       abbrev m : Mark
       m = markAt n ds ns bs ss q
 
@@ -94,11 +95,11 @@ module _ (n : ℕ) (ds ns ss : List ℕ) (count p : ℕ) where
 
     -- Of every sound history, whether the mark is the given one or follows it is b.
     abbrev pub Told : Bool → Type 0
-    Told b = (bs : ℕ → Carried) → Sound (view n count ds ns bs ss) → names ≡ b
+    Told b = (bs : ℕ → Carried) → CausallyOrdered (view n count ds ns bs ss) → names ≡ b
 
     step-rows : (first′ : List ℕ) (b : Bool) → Told b
         → ((d : ℕ) → 1 ≤ d → d ≤ n → rowFn first′ d ≡ elim b [ true ↦ noted (rowFn first) (record { desk = getD ds q 0; number = getD ns q 0 }) d | false ↦ rowFn first d ])
-        → (bs : ℕ → Carried) → Sound (view n count ds ns bs ss) → (d : ℕ) → 1 ≤ d → d ≤ n → rowFn first′ d ≡ followers given (view n (q + 1) ds ns bs ss) d
+        → (bs : ℕ → Carried) → CausallyOrdered (view n count ds ns bs ss) → (d : ℕ) → 1 ≤ d → d ≤ n → rowFn first′ d ≡ followers given (view n (q + 1) ds ns bs ss) d
     unfolding view
     step-rows first′ b e f bs s d lo hi = f d lo hi ∙ go b (e bs s) ∙ ap (λ (k : ℕ). followers given (view n k ds ns bs ss) d) (sym (add-one q))
       where

@@ -7,18 +7,19 @@ use mathlib.Core.List.{List}
 use mathlib.Core.Path.{_∙_, _≡_, ap, refl, subst, sym}
 use native.Mathlib.Numerals.{add-one, sub-one}
 use native.Mathlib.Omega.{arith}
-use Rattle.frame.specs.Mark.{MarkId}
+use Rattle.frame.specs.Names.{MarkId}
 use Rattle.causality.proofs.Apart.{follower-row}
 use Rattle.causality.specs.inner.Upto.{someReached}
-use Rattle.causality.proofs.Reach.{Sound}
+use Rattle.causality.specs.inner.Order.{CausallyOrdered}
 use Rattle.predecessors.proofs.OldestLaws.{names-one-more, namesIn, one}
-use Rattle.rows.specs.View.{Carried, Named, nameAt, rowAt, rowFn, view}
+use Rattle.rows.specs.View.{Carried, nameAt, rowAt, view}
+use Rattle.rows.specs.inner.Slots.{Named, rowFn}
 use Rattle.rows.proofs.Arrays.{follows-below, sound-below}
 use Rattle.rows.proofs.Places.{ids-names, name-place}
 use Rattle.rows.proofs.RowSteps.{named-at}
 use Rattle.rows.proofs.Slots.{zeros}
 use Rattle.concurrent.proofs.Followers.{Noted, none-before, note-behind, note-new, note-none, noted-none}
-use Rattle.concurrent.specs.Steps.{Tells, isOrFollows}
+use Rattle.concurrent.specs.inner.Steps.{Tells, isOrFollows}
 use Rattle.concurrent.proofs.ByPlaces.{follows-there}
 use Rattle.causality.proofs.Upto.{count-all, sum-zero}
 
@@ -41,7 +42,7 @@ module _ (n : ℕ) (ds ns ss : List ℕ) (p q : ℕ) where
     pub few : found ≤ r
     pub long : length first ≡ n
     pub noted : (count : ℕ) → p < count → q ≤ count → Noted n ds ns ss count p r first
-    pub desks : (count : ℕ) → p < count → q ≤ count → (bs : ℕ → Carried) → Sound (view n count ds ns bs ss) → namesIn n first ≡ found
+    pub desks : (count : ℕ) → p < count → q ≤ count → (bs : ℕ → Carried) → CausallyOrdered (view n count ds ns bs ss) → namesIn n first ≡ found
 
   module _ (h : p ≤ q) (named : Named n q ds) where
     start : (count : ℕ) → p < count → q ≤ count → (r : ℕ) → r ≤ p → Noted n ds ns ss count p r (replicate n 0)
@@ -103,7 +104,7 @@ module _ (n : ℕ) (ds ns ss : List ℕ) (p q : ℕ) where
           record { from = omega arith; to = omega arith; few = omega arith; long = w .long; noted = λ count j k. note-none n ds ns ss count p r first (w .noted count j k) (omega arith) (omega arith) (λ bs s. e); desks = w .desks }
 
     -- What is noted of all marks before q tells of them.
-    told : (first : List ℕ) → length first ≡ n → ((count : ℕ) → p < count → q ≤ count → (bs : ℕ → Carried) → Sound (view n count ds ns bs ss) → Noted n ds ns ss count p q first) → Tells n ds ns ss p q first
+    told : (first : List ℕ) → length first ≡ n → ((count : ℕ) → p < count → q ≤ count → (bs : ℕ → Carried) → CausallyOrdered (view n count ds ns bs ss) → Noted n ds ns ss count p q first) → Tells n ds ns ss p q first
     told first long f = record {
       long = long;
       tells = λ count j k bs s i t.

@@ -6,16 +6,17 @@ use mathlib.Core.Bool.{Bool, _&&_, _||_, false, true}
 use mathlib.Core.List.{List, [], _∷_}
 use mathlib.Core.Path.{_∙_, _≡_, ap, refl, sym}
 use native.Mathlib.Omega.{arith}
-use Rattle.frame.specs.Mark.{MarkId}
+use Rattle.frame.specs.Names.{MarkId}
 use Rattle.causality.specs.Marks.{same, tally}
 use Rattle.causality.specs.State.{Mark, ids}
 use Rattle.causality.proofs.Apart.{follower-new, follower-row, followers, reachedBy}
 use Rattle.causality.proofs.Lists.{has-self}
-use Rattle.causality.proofs.Past.{Counted, tally-le, tally-same}
-use Rattle.causality.proofs.Reach.{Sound, sound-counted}
+use Rattle.causality.proofs.Past.{tally-le, tally-same}
+use Rattle.causality.specs.inner.Order.{Consecutive, CausallyOrdered}
+use Rattle.causality.proofs.Reach.{sound-counted}
 
 -- A first follower is an executed mark.
-followers-few : (l : List Mark) → Counted (ids l) → (a : MarkId) (d : ℕ) → followers a l d ≤ tally d (ids l)
+followers-few : (l : List Mark) → Consecutive (ids l) → (a : MarkId) (d : ℕ) → followers a l d ≤ tally d (ids l)
 followers-few [] c a d = omega arith
 followers-few (m ∷ older) c a d = go (same a (m .id) || reachedBy (followers a older) (m .stamp)) (eqb d (m .id .desk)) refl (eqb f 0) (followers-few older (c .1) a d)
   where
@@ -35,7 +36,7 @@ followers-few (m ∷ older) c a d = go (same a (m .id) || reachedBy (followers a
         let n : m .id .number ≡ suc (tally d (ids older)) = c .0 ∙ ap (λ (x : ℕ). suc (tally x (ids older))) (sym q) in
         omega arith
 
-pub own-follows : (m : Mark) (older : List Mark) → Sound (m ∷ older) → (a : MarkId) → 0 < followers a older (m .id .desk)
+pub own-follows : (m : Mark) (older : List Mark) → CausallyOrdered (m ∷ older) → (a : MarkId) → 0 < followers a older (m .id .desk)
     → (same a (m .id) || reachedBy (followers a older) (m .stamp)) ≡ true
 own-follows m older s a h = go (same a (m .id) || reachedBy (followers a older) (m .stamp)) refl
   where

@@ -5,17 +5,18 @@ ghost use Prim.Native.Nat.{_≤_, _<_};
 ghost use lib.Dec.{eqb, leb, ltb};
 ghost use Rattle.causality.specs.Marks.{places};
 ghost use Rattle.causality.specs.Meaning.{idOf};
-ghost use Rattle.causality.specs.declared.Counted.the-variants.{Refused};
+ghost use Rattle.causality.specs.declared.ApartAnswer.the-variants.{Refused};
 ghost use Rattle.causality.specs.inner.Upto.{someReached};
-ghost use Rattle.executed.specs.Rows.{Lent};
-ghost use Rattle.rows.specs.View.{width, rowFn, rowAt, Named};
-ghost use Rattle.concurrent.specs.Found.{ApartAt, ApartFound};
-ghost use Rattle.concurrent.specs.Steps.{Tells};
+ghost use Rattle.executed.specs.inner.Rows.{Lent};
+ghost use Rattle.rows.specs.View.{width, rowAt};
+ghost use Rattle.rows.specs.inner.Slots.{rowFn, Named};
+ghost use Rattle.concurrent.specs.Found.{ApartFound};
+ghost use Rattle.concurrent.specs.inner.Steps.{ApartAt, Tells};
 ghost use Rattle.pairs.specs.Pairs.{Spare};
-ghost use Rattle.queries.specs.Lent.{OfCount};
-use causality::Counted;
-use causality::MarkId;
+ghost use Rattle.queries.specs.inner.Lent.{OfCount};
+use causality::ApartAnswer;
 use causality::Place;
+use frame::MarkId;
 use frame::Refusal;
 use pairs::Listed;
 use queries::past::past;
@@ -25,7 +26,7 @@ use rows::WIDTH;
 // What Apart finds: the marks by place, none beside a refusal.
 pub struct ApartList {
     pub list: Listed,
-    pub answer: Counted,
+    pub answer: ApartAnswer,
 }
 
 // Is mark x of a desk the first follower, of number f, or a later one? 0 is none.
@@ -136,7 +137,7 @@ fn refused(refusal: Refusal) -> ApartList
     };
     ApartList {
         list: list,
-        answer: Counted::Refused(refusal),
+        answer: ApartAnswer::Refused(refusal),
     }
 }
 
@@ -166,6 +167,6 @@ pub fn apart_list<'a>(
     }
     ApartList {
         list: list,
-        answer: Counted::Count(found),
+        answer: ApartAnswer::Count(found),
     }
 }

@@ -13,7 +13,7 @@ use Rattle.desk.specs.declared.MarkedDesk.{MarkedDesk}
 use Rattle.desk.specs.declared.ReceivedDesk.{ReceivedDesk}
 use Rattle.frame.specs.declared.MarkBox.{MarkBox}
 use Rattle.frame.specs.Answer.{refused}
-use Rattle.frame.specs.Mark.{MarkId, desks}
+use Rattle.frame.specs.Names.{MarkId, desks}
 use Rattle.causality.specs.Marks.{places, waitingPlaces}
 use Rattle.causality.specs.Meaning.{numbering, reception}
 use Rattle.causality.specs.State.{Mark, State, ids}
@@ -23,9 +23,10 @@ use Rattle.causality.proofs.RowLaws.{row-of-entries}
 use Rattle.causality.specs.Rows.{entriesOfRow}
 use Rattle.causality.specs.inner.Passes.{rowOf}
 use Rattle.causality.proofs.TableRows.{by-rows}
-use Rattle.rows.specs.View.{Slots, ZeroFrom, carriedAt, markAt, pastFrom, rowAt, view, width, downFrom}
+use Rattle.rows.specs.View.{ZeroFrom, carriedAt, markAt, pastFrom, rowAt, view, width, downFrom}
+use Rattle.rows.specs.inner.Slots.{Slots}
 use Rattle.rows.proofs.Arrays.{view-length}
-use Rattle.executed.specs.Rows.{Chained, Rows}
+use Rattle.executed.specs.inner.Rows.{Chained, Rows}
 use Rattle.desk.specs.Promises.{MarkPromise, ReceivePromise}
 use Rattle.desk.specs.StateOf.{Kept, stateOf}
 use Rattle.rows.proofs.Down.{down-equal}

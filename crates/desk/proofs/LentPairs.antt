@@ -5,13 +5,14 @@ use mathlib.Core.Path.{_≡_, ap, _∙_}
 use Prim.Native.Nat.{ℕ, _≤_}
 use Rattle.frame.specs.Answer.{Answer}
 use Rattle.frame.specs.Frame.{overIf}
-use Rattle.frame.specs.Mark.{MarkId as Name}
-use Rattle.causality.specs.declared.MarkId.{MarkId}
+use Rattle.frame.specs.Names.{MarkId as Name}
+use Rattle.frame.specs.declared.MarkId.{MarkId}
 use Rattle.causality.specs.Calls.{apartCount, apartOf, apartPairs}
 use Rattle.causality.specs.Evidence.{evidence, evidenceChain, evidencePairs}
 use Rattle.causality.specs.Meaning.{counting, idOf, proving}
 use Rattle.pairs.proofs.Filled.{filled-over}
-use Rattle.pairs.specs.Pairs.{ListsIf, filled}
+use Rattle.pairs.specs.Pairs.{ListsIf}
+use Rattle.pairs.specs.inner.Filled.{filled}
 use Rattle.pairs.specs.declared.Listed.{Listed}
 use Rattle.concurrent.specs.Found.{ApartFound}
 use Rattle.concurrent.specs.declared.ApartList.{ApartList}

@@ -8,10 +8,10 @@ use Prim.Native.Nat.{ℕ}
 use lib.Dec.{T}
 use Rattle.frame.specs.Answer.{Answer}
 use Rattle.frame.specs.Frame.{overIf, writing}
-use Rattle.frame.specs.Mark.{MarkId, desks, isDesk}
+use Rattle.frame.specs.Names.{MarkId, desks, isDesk}
 use Rattle.frame.specs.declared.MarkBox.{MarkBox}
 use Rattle.frame.specs.declared.Writing.{Writing}
-use Rattle.causality.specs.declared.MarkId.{MarkId as CodeId}
+use Rattle.frame.specs.declared.MarkId.{MarkId as CodeId}
 use Rattle.causality.specs.Marks.{All}
 use Rattle.causality.specs.Meaning.{counting, idOf, numbering, proving, reception, relating}
 use Rattle.causality.specs.Tables.{tables}

@@ -4,9 +4,10 @@ use mathlib.Core.List.{List}
 use mathlib.Core.Path.{_≡_}
 use Prim.Native.Nat.{ℕ}
 use Rattle.frame.specs.declared.MarkBox.{MarkBox}
-use Rattle.causality.specs.declared.Marked.{Marked}
-use Rattle.causality.specs.declared.Received.{Received}
-use Rattle.executed.specs.Arrays.{Arrays, Lending, arrays}
+use Rattle.causality.specs.declared.MarkAnswer.{MarkAnswer}
+use Rattle.causality.specs.declared.ReceiveAnswer.{ReceiveAnswer}
+use Rattle.executed.specs.Arrays.{Arrays, arrays}
+use Rattle.rows.specs.Lending.{Lending}
 use Rattle.waiting.specs.declared.Waiting.{Waiting}
 use Rattle.desk.specs.declared.Desk.{Desk}
 use Rattle.desk.specs.Promises.{MarkPromise, ReceivePromise}
@@ -29,15 +30,15 @@ deskOf own a q = record {
   queue = q;
 }
 
--- MARK, which is lent the arrays of the executed marks and told how many wait: of each desk that has these arrays and so many waiting marks
+-- MARK, which is lent the arrays of the executed marks and told how many wait: of each desk that has these arrays and `waiting` waiting marks
 
-abbrev pub Marking : ℕ → ℕ → Arrays → Arrays → MarkBox → Lending (List ℕ) → Marked → Type 0
+abbrev pub Marking : ℕ → ℕ → Arrays → Arrays → MarkBox → Lending (List ℕ) → MarkAnswer → Type 0
 Marking own waiting a b extent out r = (q : Waiting) → q .count ≡ waiting → Kept (deskOf own a q)
     → MarkPromise (deskOf own a q) extent (out .entry .now) (out .exit .now) (record { desk = deskOf own b q; answer = r })
 
 -- RECEIVE, which is lent all
 
-abbrev pub Receiving : ℕ → Arrays → Waiting → Arrays → Waiting → List ℕ → Received → Type 0
+abbrev pub Receiving : ℕ → Arrays → Waiting → Arrays → Waiting → List ℕ → ReceiveAnswer → Type 0
 Receiving own a q b r frame answer = ReceivePromise (deskOf own a q) frame (record { desk = deskOf own b r; answer = answer })
 
 -- QUERIES, which are lent some of the arrays: `a` has them, by what is not lent

@@ -4,9 +4,9 @@ use mathlib.Core.List.{List, map}
 use Prim.Native.Nat.{ℕ}
 use lib.ListN.{length}
 use Rattle.frame.specs.Frame.{writing}
-use Rattle.frame.specs.Mark.{desks}
+use Rattle.frame.specs.Names.{desks}
 use Rattle.frame.specs.declared.MarkBox.{MarkBox}
-use Rattle.causality.specs.declared.MarkId.{MarkId}
+use Rattle.frame.specs.declared.MarkId.{MarkId}
 use Rattle.causality.specs.Calls.{new, mark, receive, relate, apartCount, apartPairs, firstApart, frameAgainSize, frameAgainBytes, toSecondSize, toSecondBytes}
 use Rattle.causality.specs.Evidence.{evidence, evidencePairs}
 use Rattle.causality.specs.Tables.{pairTables, pairTablesCounts}

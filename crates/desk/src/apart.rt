@@ -7,8 +7,8 @@ ghost use Rattle.desk.specs.StateOf.{stateOf, Kept};
 use crate::CountedDesk;
 use crate::Desk;
 use crate::ListedDesk;
-use causality::MarkId;
 use concurrent::ApartList;
+use frame::MarkId;
 
 impl Desk {
     // In a lent run of pairs. By hand, since a slice of structs is lent; a refusal has an empty list.
@@ -21,7 +21,7 @@ impl Desk {
         self.with_count(found)
     }
 
-    // The same with no reference: a list on flat numbers, where there is room for so many.
+    // The same with no reference: a list on flat numbers, where there is room for `room` of them.
     pub fn apart_list(mut self, a: MarkId, room: usize) -> ListedDesk
         requires { ⌜ Kept self ⌝ }
         ensures { λ r. ⌜ ApartListPromise self a room r ⌝ }

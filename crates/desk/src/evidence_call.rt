@@ -7,8 +7,8 @@ ghost use Rattle.desk.specs.StateOf.{stateOf, Kept};
 use crate::ChainDesk;
 use crate::Desk;
 use crate::EvidenceDesk;
-use causality::MarkId;
 use evidence::EvidenceList;
+use frame::MarkId;
 
 impl Desk {
     // The chain in a lent run of pairs. By hand, since a slice of structs is lent; a refusal and Concurrent have an empty list.
@@ -21,7 +21,7 @@ impl Desk {
         self.with_evidence(found)
     }
 
-    // The same with no reference: a list on flat numbers, where there is room for so many.
+    // The same with no reference: a list on flat numbers, where there is room for `room` of them.
     pub fn evidence_list(mut self, a: MarkId, b: MarkId, room: usize) -> ChainDesk
         requires { ⌜ Kept self ⌝ }
         ensures { λ r. ⌜ EvidenceListPromise self a b room r ⌝ }

@@ -3,7 +3,7 @@ ghost use Rattle.desk.specs.Promises.{FirstApartPromise};
 ghost use Rattle.desk.specs.StateOf.{Kept};
 use crate::Desk;
 use crate::LowestDesk;
-use causality::MarkId;
+use frame::MarkId;
 
 impl Desk {
     pub fn first_apart(mut self, a: MarkId, desk: u8) -> LowestDesk

@@ -3,7 +3,7 @@ ghost use Rattle.desk.specs.Promises.{FrameAgainPromise};
 ghost use Rattle.desk.specs.StateOf.{Kept};
 use crate::Desk;
 use crate::WrittenDesk;
-use causality::MarkId;
+use frame::MarkId;
 
 impl Desk {
     pub fn frame_again(mut self, a: MarkId, out: &mut [u8]) -> WrittenDesk

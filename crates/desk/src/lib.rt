@@ -10,13 +10,13 @@ mod pair_tables;
 mod receive;
 mod relate;
 
-use causality::Counted;
-use causality::Created;
-use causality::Evidence;
-use causality::Lowest;
-use causality::Marked;
-use causality::Received;
-use causality::Related;
+use causality::ApartAnswer;
+use causality::EvidenceAnswer;
+use causality::FirstApartAnswer;
+use causality::MarkAnswer;
+use causality::NewAnswer;
+use causality::ReceiveAnswer;
+use causality::RelateAnswer;
 use concurrent::ApartList;
 use evidence::EvidenceList;
 use frame::Writing;
@@ -47,27 +47,27 @@ pub struct Desk {
 // Each call gives the desk with its answer.
 pub struct CreatedDesk {
     pub desk: Desk,
-    pub answer: Created,
+    pub answer: NewAnswer,
 }
 
 pub struct MarkedDesk {
     pub desk: Desk,
-    pub answer: Marked,
+    pub answer: MarkAnswer,
 }
 
 pub struct ReceivedDesk {
     pub desk: Desk,
-    pub answer: Received,
+    pub answer: ReceiveAnswer,
 }
 
 pub struct RelatedDesk {
     pub desk: Desk,
-    pub answer: Related,
+    pub answer: RelateAnswer,
 }
 
 pub struct EvidenceDesk {
     pub desk: Desk,
-    pub answer: Evidence,
+    pub answer: EvidenceAnswer,
 }
 
 // Evidence, with no reference.
@@ -78,7 +78,7 @@ pub struct ChainDesk {
 
 pub struct CountedDesk {
     pub desk: Desk,
-    pub answer: Counted,
+    pub answer: ApartAnswer,
 }
 
 // Apart, with no reference.
@@ -89,7 +89,7 @@ pub struct ListedDesk {
 
 pub struct LowestDesk {
     pub desk: Desk,
-    pub answer: Lowest,
+    pub answer: FirstApartAnswer,
 }
 
 pub struct WrittenDesk {

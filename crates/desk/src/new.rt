@@ -1,13 +1,13 @@
 // New: an empty desk.
 ghost use mathlib.Core.Path.{_≡_};
 ghost use Rattle.causality.specs.Calls.{empty};
-ghost use Rattle.executed.specs.Arrays.{Ordered};
-ghost use Rattle.waiting.specs.Queue.{Queued};
+ghost use Rattle.executed.specs.inner.Takes.{Ordered};
+ghost use Rattle.waiting.specs.inner.Steps.{Queued};
 ghost use Rattle.desk.specs.Promises.{NewPromise};
 ghost use Rattle.desk.specs.StateOf.{stateOf, arraysOf};
 use crate::CreatedDesk;
 use crate::Desk;
-use causality::Created;
+use causality::NewAnswer;
 use frame::Refusal;
 use rows::BOX;
 use rows::PLACES;
@@ -41,12 +41,12 @@ impl Desk {
         if frame::conditions::is_desk(own) {
             CreatedDesk {
                 desk: blank(own),
-                answer: Created::Empty,
+                answer: NewAnswer::Empty,
             }
         } else {
             CreatedDesk {
                 desk: blank(1),
-                answer: Created::Refused(Refusal::DeskRange),
+                answer: NewAnswer::Refused(Refusal::DeskRange),
             }
         }
     }

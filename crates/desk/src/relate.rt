@@ -3,7 +3,7 @@ ghost use Rattle.desk.specs.Promises.{RelatePromise};
 ghost use Rattle.desk.specs.StateOf.{Kept};
 use crate::Desk;
 use crate::RelatedDesk;
-use causality::MarkId;
+use frame::MarkId;
 
 impl Desk {
     pub fn relate(mut self, a: MarkId, b: MarkId) -> RelatedDesk

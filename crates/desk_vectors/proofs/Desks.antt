@@ -9,7 +9,7 @@ use lib.Seq.{getD-set-other, getD-set-same}
 use Rattle.rows.specs.View.{width}
 use Rattle.desk.specs.StateOf.{Kept}
 use Rattle.desk.specs.declared.Desk.{Desk}
-use Rattle.desk_vectors.specs.AllKept.{AllKept}
+use Rattle.desk_vectors.specs.inner.AllKept.{AllKept}
 
 pub all-filled : {d : Desk} → Kept d → AllKept (replicate width d)
 all-filled {d} k = record {

@@ -2,9 +2,9 @@
 ghost use Rattle.desk.specs.StateOf.{Kept};
 use crate::frames;
 use crate::show;
-use causality::MarkId;
 use desk::Desk;
 use frame::MarkBox;
+use frame::MarkId;
 use frame::Number;
 use frame::Past;
 

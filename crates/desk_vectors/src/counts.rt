@@ -2,7 +2,7 @@
 ghost use Prim.Native.Nat.{_≤_};
 ghost use Rattle.desk.specs.StateOf.{Kept};
 use crate::show;
-use causality::Counted;
+use causality::ApartAnswer;
 use desk::Desk;
 use rows::WIDTH;
 use tables::CELLS;
@@ -80,8 +80,8 @@ fn lend(desk: Desk, lent: usize)
         let answer = r.answer;
         show::number(b"Pair tables, counts lent ", lent as u64);
         match answer {
-            Counted::Count(n) => counted(n, counts),
-            Counted::Refused(r) => refused(r.number(), counts),
+            ApartAnswer::Count(n) => counted(n, counts),
+            ApartAnswer::Refused(r) => refused(r.number(), counts),
         }
         show::words(b"\n");
     }

@@ -1,11 +1,11 @@
 // The parts of a line: words, numbers, marks, and what a call answered in the document's words.
-use causality::Counted;
-use causality::Created;
-use causality::Evidence;
-use causality::Lowest;
-use causality::Marked;
-use causality::Received;
-use causality::Related;
+use causality::ApartAnswer;
+use causality::EvidenceAnswer;
+use causality::FirstApartAnswer;
+use causality::MarkAnswer;
+use causality::NewAnswer;
+use causality::ReceiveAnswer;
+use causality::RelateAnswer;
 use frame::Refusal;
 use frame::Writing;
 use pairs::Listed;
@@ -95,10 +95,10 @@ pub fn bytes(label: &[u8], s: &[u8]) {
     words(b"\n");
 }
 
-pub fn created(answer: Created) {
+pub fn created(answer: NewAnswer) {
     match answer {
-        Created::Empty => words(b": empty desk"),
-        Created::Refused(r) => refused(r),
+        NewAnswer::Empty => words(b": empty desk"),
+        NewAnswer::Refused(r) => refused(r),
     }
     words(b"\n");
 }
@@ -113,10 +113,10 @@ fn made(n: u16, size: usize, out: &[u8]) {
     }
 }
 
-pub fn marked(answer: Marked, out: &[u8]) {
+pub fn marked(answer: MarkAnswer, out: &[u8]) {
     match answer {
-        Marked::Made(n, size) => made(n.0, size, out),
-        Marked::Refused(r) => refused(r),
+        MarkAnswer::Made(n, size) => made(n.0, size, out),
+        MarkAnswer::Refused(r) => refused(r),
     }
     words(b"\n");
 }
@@ -132,23 +132,23 @@ fn executed(k: u16, f: u16) {
     words(b")");
 }
 
-pub fn received(answer: Received) {
+pub fn received(answer: ReceiveAnswer) {
     match answer {
-        Received::Known => words(b": Known"),
-        Received::Waiting(missing) => waiting(missing),
-        Received::Executed(k, f) => executed(k, f),
-        Received::Refused(r) => refused(r),
+        ReceiveAnswer::Known => words(b": Known"),
+        ReceiveAnswer::Waiting(missing) => waiting(missing),
+        ReceiveAnswer::Executed(k, f) => executed(k, f),
+        ReceiveAnswer::Refused(r) => refused(r),
     }
     words(b"\n");
 }
 
-pub fn related(answer: Related) {
+pub fn related(answer: RelateAnswer) {
     match answer {
-        Related::Same => words(b": Same"),
-        Related::Before => words(b": Before"),
-        Related::After => words(b": After"),
-        Related::Concurrent => words(b": Concurrent"),
-        Related::Refused(r) => refused(r),
+        RelateAnswer::Same => words(b": Same"),
+        RelateAnswer::Before => words(b": Before"),
+        RelateAnswer::After => words(b": After"),
+        RelateAnswer::Concurrent => words(b": Concurrent"),
+        RelateAnswer::Refused(r) => refused(r),
     }
     words(b"\n");
 }
@@ -173,10 +173,10 @@ fn marks(list: Listed) {
     }
 }
 
-pub fn counted(answer: Counted, list: Listed) {
+pub fn counted(answer: ApartAnswer, list: Listed) {
     match answer {
-        Counted::Count(n) => number(b": count ", n as u64),
-        Counted::Refused(r) => refused(r),
+        ApartAnswer::Count(n) => number(b": count ", n as u64),
+        ApartAnswer::Refused(r) => refused(r),
     }
     marks(list);
     words(b"\n");
@@ -193,13 +193,13 @@ fn concurrent(first: u16, second: u16) {
     words(b")");
 }
 
-pub fn evidenced(answer: Evidence, list: Listed) {
+pub fn evidenced(answer: EvidenceAnswer, list: Listed) {
     match answer {
-        Evidence::Same(length) => chained(b": Same(", length),
-        Evidence::Before(length) => chained(b": Before(", length),
-        Evidence::After(length) => chained(b": After(", length),
-        Evidence::Concurrent(first, second) => concurrent(first, second),
-        Evidence::Refused(r) => refused(r),
+        EvidenceAnswer::Same(length) => chained(b": Same(", length),
+        EvidenceAnswer::Before(length) => chained(b": Before(", length),
+        EvidenceAnswer::After(length) => chained(b": After(", length),
+        EvidenceAnswer::Concurrent(first, second) => concurrent(first, second),
+        EvidenceAnswer::Refused(r) => refused(r),
     }
     marks(list);
     words(b"\n");
@@ -209,11 +209,11 @@ fn numbered(n: u16) {
     number(b": ", n as u64);
 }
 
-pub fn lowest(answer: Lowest) {
+pub fn lowest(answer: FirstApartAnswer) {
     match answer {
-        Lowest::Number(n) => numbered(n.0),
-        Lowest::None => words(b": 0"),
-        Lowest::Refused(r) => refused(r),
+        FirstApartAnswer::Number(n) => numbered(n.0),
+        FirstApartAnswer::None => words(b": 0"),
+        FirstApartAnswer::Refused(r) => refused(r),
     }
     words(b"\n");
 }

@@ -2,7 +2,7 @@
 ghost use Prim.Native.Nat.{_<_};
 ghost use Rattle.rows.specs.View.{width};
 ghost use Rattle.desk.specs.StateOf.{Kept};
-ghost use Rattle.desk_vectors.specs.AllKept.{AllKept};
+ghost use Rattle.desk_vectors.specs.inner.AllKept.{AllKept};
 use crate::calls;
 use crate::frames;
 use crate::show;

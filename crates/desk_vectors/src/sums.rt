@@ -1,6 +1,6 @@
 // How often Receive gave each answer, and how many marks it executed and dropped.
 use crate::show;
-use causality::Received;
+use causality::ReceiveAnswer;
 
 // `answers` counts the answers Executed(k, f); `executed` and `dropped` sum their k and f.
 pub struct Sums {
@@ -36,12 +36,12 @@ impl Sums {
     }
 
     // One answer more.
-    pub fn with(mut self, answer: Received) -> Sums {
+    pub fn with(mut self, answer: ReceiveAnswer) -> Sums {
         match answer {
-            Received::Known => self.known = more(self.known, 1),
-            Received::Waiting(_) => self.waiting = more(self.waiting, 1),
-            Received::Executed(k, f) => return self.ran(k, f),
-            Received::Refused(_) => self.refused = more(self.refused, 1),
+            ReceiveAnswer::Known => self.known = more(self.known, 1),
+            ReceiveAnswer::Waiting(_) => self.waiting = more(self.waiting, 1),
+            ReceiveAnswer::Executed(k, f) => return self.ran(k, f),
+            ReceiveAnswer::Refused(_) => self.refused = more(self.refused, 1),
         }
         self
     }

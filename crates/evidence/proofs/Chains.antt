@@ -9,22 +9,24 @@ use mathlib.Core.Option.{Option, none, some}
 use mathlib.Core.Path.{_∙_, _≡_, ap, refl, subst, sym}
 use native.Mathlib.Numerals.{sub-one}
 use native.Mathlib.Omega.{arith}
-use Rattle.frame.specs.Mark.{MarkId}
+use Rattle.frame.specs.Names.{MarkId}
 use Rattle.causality.specs.Evidence.{entryTowards, goingBack}
 use Rattle.causality.specs.Marks.{has, same}
 use Rattle.causality.specs.State.{Mark, precedes}
 use Rattle.causality.proofs.Apart.{reaches}
 use Rattle.causality.proofs.Lists.{any-find}
 use Rattle.causality.proofs.Logic.{T→eq, and-fst, and-snd, nT→eq, or-cases, same-refl, same→eq, split}
-use Rattle.causality.proofs.Reach.{Sound, not-new, precedes-at}
+use Rattle.causality.proofs.Reach.{not-new, precedes-at}
+use Rattle.causality.specs.inner.Order.{CausallyOrdered}
 use Rattle.causality.proofs.RowLaws.{show, shown}
 use Rattle.causality.specs.Rows.{entriesOfRow}
-use Rattle.rows.specs.View.{Carried, markAt, nameAt, rowAt, rowFn, view}
+use Rattle.rows.specs.View.{Carried, markAt, nameAt, rowAt, view}
+use Rattle.rows.specs.inner.Slots.{rowFn}
 use Rattle.rows.proofs.Arrays.{follows-below, sound-below}
 use Rattle.rows.proofs.Places.{has-at, ids-names, not-before, precedes-no-earlier, precedes-there, name-place}
-use Rattle.concurrent.specs.Steps.{Tells, isOrFollows}
+use Rattle.concurrent.specs.inner.Steps.{Tells, isOrFollows}
 use Rattle.concurrent.proofs.ByPlaces.{follows-there}
-use Rattle.evidence.specs.Steps.{LowestReached, PlaceBelow, reachedAt}
+use Rattle.evidence.specs.inner.Steps.{LowestReached, PlaceBelow, reachedAt}
 use Rattle.evidence.proofs.LowestEntry.{lowest-at, lowest-none}
 
 module _ (n : ℕ) (ds ns : List ℕ) (bs : ℕ → Carried) (ss : List ℕ) where
@@ -35,7 +37,7 @@ module _ (n : ℕ) (ds ns : List ℕ) (bs : ℕ → Carried) (ss : List ℕ) whe
   name p = nameAt ds ns p
 
   -- How the chain goes back from a mark is settled at its place.
-  back-there : (count p : ℕ) → Sound (view n count ds ns bs ss) → p < count → (a : MarkId) → goingBack (view n count ds ns bs ss) a (name p) ≡ goingBack (view n (suc p) ds ns bs ss) a (name p)
+  back-there : (count p : ℕ) → CausallyOrdered (view n count ds ns bs ss) → p < count → (a : MarkId) → goingBack (view n count ds ns bs ss) a (name p) ≡ goingBack (view n (suc p) ds ns bs ss) a (name p)
   unfolding view
   back-there zero p s h a = let z : ⊥ = omega arith in absurd z
   back-there (suc k) p s h a = elim (split (ltb p k)) [
@@ -50,7 +52,7 @@ module _ (n : ℕ) (ds ns : List ℕ) (bs : ℕ → Carried) (ss : List ℕ) whe
   unfolding view
   back-new p a o e = rw (T→eq (same (name p) (name p)) (same-refl (name p)), goingBack, e)
 
-  module _ (count : ℕ) (s : Sound (view n count ds ns bs ss)) where
+  module _ (count : ℕ) (s : CausallyOrdered (view n count ds ns bs ss)) where
     -- An entry of a mark stands before it.
     entry-place : (q : ℕ) → q < count → (e : MarkId) → T (has e (entriesOfRow n (rowAt n ss q))) → (r : ℕ) × (r < q) × (name r ≡ e)
     entry-place q h e t = name-place ds ns q e (rw (← ids-names n ds ns bs ss q) (follows-below n count ds ns bs ss s q h .listed e t))

@@ -3,7 +3,7 @@ use Prim.Native.Nat.{_-_, _<_, suc, zero, ℕ}
 use mathlib.Core.List.{List, [], _++_, _∷_, reverse, reverse-cons}
 use mathlib.Core.Path.{_∙_, _≡_, ap, refl, sym}
 use native.Mathlib.Omega.{arith}
-use Rattle.frame.specs.Mark.{MarkId}
+use Rattle.frame.specs.Names.{MarkId}
 use Rattle.rows.specs.View.{downFrom, nameAt, namesDown}
 
 -- The name at index 0 is the last.

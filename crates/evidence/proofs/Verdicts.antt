@@ -2,8 +2,8 @@
 use Prim.Native.Nat.{ℕ, _<_, _≤_}
 use borrow.Author.Tests.{eq-eqb, le-ltb, lt-ltb, ne-eqb}
 use mathlib.Core.Path.{_≡_}
-use Rattle.causality.specs.declared.Evidence.the-variants.{Same, Before, After}
-use Rattle.evidence.specs.Steps.{verdictAt}
+use Rattle.causality.specs.declared.EvidenceAnswer.the-variants.{Same, Before, After}
+use Rattle.evidence.specs.inner.Steps.{verdictAt}
 
 pub verdict-same : (p q n : ℕ) → p ≡ q → verdictAt p q n ≡ Same n
 verdict-same p q n e = rw (eq-eqb p q e, verdictAt)

@@ -4,17 +4,17 @@ use lib.Dec.{T}
 use mathlib.Core.List.{List, [], _++_, _∷_, append-assoc, append-nil, reverse, reverse-cons}
 use mathlib.Core.Path.{_∙_, _≡_, ap, sym}
 use native.Mathlib.Omega.{arith}
-use Rattle.frame.specs.Mark.{MarkId}
+use Rattle.frame.specs.Names.{MarkId}
 use Rattle.causality.specs.Evidence.{goingBack}
 use Rattle.causality.specs.Marks.{places}
 use Rattle.causality.specs.State.{Mark}
 use Rattle.pairs.specs.Pairs.{Spare}
 use Rattle.pairs.specs.declared.Listed.{Listed}
 use Rattle.pairs.proofs.Longer.{longer, longer-names, longer-spare}
-use Rattle.queries.specs.Lent.{OfMarks}
+use Rattle.queries.specs.inner.Lent.{OfMarks}
 use Rattle.rows.specs.View.{nameAt, namesDown, view}
-use Rattle.concurrent.specs.Steps.{Tells, isOrFollows}
-use Rattle.evidence.specs.Steps.{GoneBack, SteppedBack}
+use Rattle.concurrent.specs.inner.Steps.{Tells, isOrFollows}
+use Rattle.evidence.specs.inner.Steps.{GoneBack, SteppedBack}
 use Rattle.evidence.proofs.Chains.{back-end, follows-later}
 
 module _ (n : ℕ) (ds ns ss : List ℕ) (p q : ℕ) where

@@ -9,7 +9,7 @@ use mathlib.Core.Logic.{_⊎_, inl, inr}
 use mathlib.Core.Path.{_∙_, _≡_, ap, refl, subst, sym}
 use native.Mathlib.Omega.{arith}
 use Rattle.frame.specs.Answer.{Answer, gives, refuseIf, refused}
-use Rattle.frame.specs.Mark.{MarkId}
+use Rattle.frame.specs.Names.{MarkId}
 use Rattle.frame.specs.declared.Refusal.the-variants.{NotExecuted, OutputShort}
 use Rattle.causality.specs.Answers.{Evidence, Relation, Same, Before, After, Concurrent}
 use Rattle.causality.specs.Calls.{andThen, relate}
@@ -17,26 +17,26 @@ use Rattle.causality.specs.Evidence.{behind, chain, chainFor, chainIf, evidence
 use Rattle.causality.specs.Marks.{places, same}
 use Rattle.causality.specs.Meaning.{proving}
 use Rattle.causality.specs.State.{Mark, State, precedes}
-use Rattle.causality.specs.declared.Evidence.the-variants.{Refused}
+use Rattle.causality.specs.declared.EvidenceAnswer.the-variants.{Refused}
 use Rattle.causality.proofs.EvidenceLaws.{counts-below}
 use Rattle.causality.proofs.Logic.{or-inl, same-refl, split}
-use Rattle.causality.proofs.Reach.{Sound}
-use Rattle.executed.specs.Rows.{Finds, Lent}
+use Rattle.causality.specs.inner.Order.{CausallyOrdered}
+use Rattle.executed.specs.inner.Rows.{Finds, Lent}
 use Rattle.executed.proofs.Chain.{found-inside, found-place}
 use Rattle.pairs.specs.Pairs.{ListsIf, Spare, marksOf}
 use Rattle.pairs.specs.declared.Listed.{Listed}
 use Rattle.pairs.proofs.Filled.{length-marksOf}
-use Rattle.queries.specs.Lent.{lent}
-use Rattle.queries.specs.Steps.{PrecedesAt}
+use Rattle.queries.specs.inner.Lent.{queriedState}
+use Rattle.queries.specs.inner.Steps.{PrecedesAt}
 use Rattle.queries.proofs.MadeBefore.{counted-less}
 use Rattle.queries.proofs.Relating.{relate-back, relate-forward, relate-no-first, relate-no-second, relate-same}
 use Rattle.rows.specs.View.{Carried, nameAt, namesDown, view, width}
 use Rattle.rows.proofs.Places.{found-some, has-at, ids-names}
 use Rattle.rows.proofs.RowSteps.{named-less}
-use Rattle.concurrent.specs.Steps.{Tells, isOrFollows}
+use Rattle.concurrent.specs.inner.Steps.{Tells, isOrFollows}
 use Rattle.concurrent.proofs.ByPlaces.{same-place}
 use Rattle.evidence.specs.Found.{EvidenceFound}
-use Rattle.evidence.specs.Steps.{CountsOf, GoneBack, HasMark, Reversed, countedBefore, verdictAt}
+use Rattle.evidence.specs.inner.Steps.{CountsOf, GoneBack, HasMark, Reversed, countedBefore, verdictAt}
 use Rattle.evidence.specs.declared.EvidenceList.{EvidenceList}
 use Rattle.evidence.proofs.Verdicts.{verdict-after, verdict-before, verdict-same}
 
@@ -87,7 +87,7 @@ module _ (st : State) (a b : MarkId) (room : ℕ) where
 -- BY PLACES
 
 -- A chain that was gone back, of a mark at q that is that at p or follows it.
-module _ (ds ns ss : List ℕ) (p q : ℕ) (list : Listed) (g : GoneBack width ds ns ss p q list) (count : ℕ) (h : q < count) (bs : ℕ → Carried) (s : Sound (view width count ds ns bs ss))
+module _ (ds ns ss : List ℕ) (p q : ℕ) (list : Listed) (g : GoneBack width ds ns ss p q list) (count : ℕ) (h : q < count) (bs : ℕ → Carried) (s : CausallyOrdered (view width count ds ns bs ss))
     (t : T (isOrFollows (view width count ds ns bs ss) (nameAt ds ns p) (nameAt ds ns q))) where
   abbrev back : List MarkId
   back = goingBack (view width count ds ns bs ss) (nameAt ds ns p) (nameAt ds ns q)
@@ -103,7 +103,7 @@ module _ (ds ns ss : List ℕ) (p q : ℕ) (list : Listed) (g : GoneBack width d
 
 -- r says whether the mark at place q is that at place p or follows it, however many marks there are.
 abbrev pub FollowsAt : List ℕ → List ℕ → List ℕ → ℕ → ℕ → Bool → Type 0
-FollowsAt ds ns ss p q r = (count : ℕ) (bs : ℕ → Carried) → q < count → Sound (view width count ds ns bs ss)
+FollowsAt ds ns ss p q r = (count : ℕ) (bs : ℕ → Carried) → q < count → CausallyOrdered (view width count ds ns bs ss)
     → r ≡ isOrFollows (view width count ds ns bs ss) (nameAt ds ns p) (nameAt ds ns q)
 
 module _ (ds ns ss : List ℕ) (p q : ℕ) where
@@ -128,15 +128,15 @@ has-mark count ds ns ts ls bf l p h =
 module _ (count : ℕ) (ds ns ss ts ls bf : List ℕ) (l : Lent count ds ns ts ls bf) (own : ℕ) (bs : ℕ → Carried) (waiting : List Mark)
     (a b : MarkId) (p q : ℕ) (fa : Finds ts ls bf a p) (fb : Finds ts ls bf b q) (room : ℕ) where
   abbrev state : State
-  state = lent count ds ns ss own bs waiting
+  state = queriedState count ds ns ss own bs waiting
 
-  pub evidence-no-first : places ≤ p → (r : EvidenceList) → r .answer ≡ Refused NotExecuted → r .list .count ≡ 0 → Spare (r .list) → EvidenceFound (lent count ds ns ss own bs waiting) a b room r
+  pub evidence-no-first : places ≤ p → (r : EvidenceList) → r .answer ≡ Refused NotExecuted → r .list .count ≡ 0 → Spare (r .list) → EvidenceFound (queriedState count ds ns ss own bs waiting) a b room r
   evidence-no-first h = not-executed state a b room (relate-no-first count ds ns ss ts ls bf l own bs waiting a b p q fa fb h)
 
-  pub evidence-no-second : places ≤ q → (r : EvidenceList) → r .answer ≡ Refused NotExecuted → r .list .count ≡ 0 → Spare (r .list) → EvidenceFound (lent count ds ns ss own bs waiting) a b room r
+  pub evidence-no-second : places ≤ q → (r : EvidenceList) → r .answer ≡ Refused NotExecuted → r .list .count ≡ 0 → Spare (r .list) → EvidenceFound (queriedState count ds ns ss own bs waiting) a b room r
   evidence-no-second h = not-executed state a b room (relate-no-second count ds ns ss ts ls bf l own bs waiting a b p q fa fb h)
 
-  module _ (h : p < places) (k : q < places) (s : Sound (view width count ds ns bs ss)) where
+  module _ (h : p < places) (k : q < places) (s : CausallyOrdered (view width count ds ns bs ss)) where
     abbrev marks : List Mark
     marks = view width count ds ns bs ss
 
@@ -162,7 +162,7 @@ module _ (count : ℕ) (ds ns ss ts ls bf : List ℕ) (l : Lent count ds ns ts l
     -- There is a chain: in the other order it is that of the verdict that comes with it.
     record Chained (list : Listed) : Type 0 where
       verdict : Relation
-      related : relate (lent count ds ns ss own bs waiting) a b ≡ gives verdict
+      related : relate (queriedState count ds ns ss own bs waiting) a b ≡ gives verdict
       names : (r : Listed) → Reversed list r → marksOf r ≡ chainFor (view width count ds ns bs ss) a b verdict
       long : list .count ≡ length (chainFor (view width count ds ns bs ss) a b verdict)
       answer : proving (verdictAt p q (list .count)) ≡ gives (behind (view width count ds ns bs ss) a b verdict)
@@ -223,11 +223,11 @@ module _ (count : ℕ) (ds ns ss ts ls bf : List ℕ) (l : Lent count ds ns ts l
               }
 
       pub evidence-too-short : FollowsAt ds ns ss from to true → (list : Listed) → GoneBack width ds ns ss from to list → room < list .count
-          → (r : EvidenceList) → r .answer ≡ Refused OutputShort → r .list .count ≡ 0 → Spare (r .list) → EvidenceFound (lent count ds ns ss own bs waiting) a b room r
+          → (r : EvidenceList) → r .answer ≡ Refused OutputShort → r .list .count ≡ 0 → Spare (r .list) → EvidenceFound (queriedState count ds ns ss own bs waiting) a b room r
       evidence-too-short j list g short = let c = chained j list g in let n = c .long in too-short state a b room (c .verdict) (c .related) (omega arith)
 
       pub evidence-shown : FollowsAt ds ns ss from to true → (list : Listed) → GoneBack width ds ns ss from to list → list .count ≤ room
-          → (r : EvidenceList) → r .answer ≡ verdictAt p q (list .count) → Reversed list (r .list) → EvidenceFound (lent count ds ns ss own bs waiting) a b room r
+          → (r : EvidenceList) → r .answer ≡ verdictAt p q (list .count) → Reversed list (r .list) → EvidenceFound (queriedState count ds ns ss own bs waiting) a b room r
       evidence-shown j list g enough r e v =
           let c = chained j list g in
           let n = v .count in
@@ -236,7 +236,7 @@ module _ (count : ℕ) (ds ns ss ts ls bf : List ℕ) (l : Lent count ds ns ts l
 
       -- There is no chain: the marks are concurrent, with these counts.
       pub evidence-concurrent : FollowsAt ds ns ss from to false → (r : EvidenceList) → CountsOf width ds ns ss p q (r .answer)
-          → r .list .count ≡ 0 → Spare (r .list) → EvidenceFound (lent count ds ns ss own bs waiting) a b room r
+          → r .list .count ≡ 0 → Spare (r .list) → EvidenceFound (queriedState count ds ns ss own bs waiting) a b room r
       unfolding marksOf
       evidence-concurrent apart r v n =
           shown state a b room Concurrent (go order) r (ap proving (v count first-in second-in bs s) ∙ (λ i. gives (Concurrent (first i) (second i)))) (ap (λ (c : ℕ). reverse (namesDown c (r .list .desks) (r .list .numbers))) n) (omega arith) (omega arith)
@@ -244,7 +244,7 @@ module _ (count : ℕ) (ds ns ss ts ls bf : List ℕ) (l : Lent count ds ns ts l
           at : (i j : ℕ) → from ≡ i → to ≡ j → FollowsAt ds ns ss i j false
           at i j e f = subst (λ (x : ℕ). FollowsAt ds ns ss x j false) e (subst (λ (y : ℕ). FollowsAt ds ns ss from y false) f apart)
 
-          go : (p ≡ q) ⊎ ((p < q) ⊎ (q < p)) → relate (lent count ds ns ss own bs waiting) a b ≡ gives Concurrent
+          go : (p ≡ q) ⊎ ((p < q) ⊎ (q < p)) → relate (queriedState count ds ns ss own bs waiting) a b ≡ gives Concurrent
           go (inl z) = absurd (subst T (sym (at p p (omega arith) (omega arith) count bs first-in s)) (or-inl (same (nameAt ds ns p) (nameAt ds ns p)) (precedes marks (nameAt ds ns p) (nameAt ds ns p)) (same-refl (nameAt ds ns p))))
           go (inr (inl z)) = relate-forward count ds ns ss ts ls bf l own bs waiting a b p q fa fb h k s false false refl z (precedes-at-places ds ns ss p q z false (at p q (omega arith) (omega arith)))
           go (inr (inr z)) = relate-back count ds ns ss ts ls bf l own bs waiting a b p q fa fb h k s false false refl z (precedes-at-places ds ns ss q p z false (at q p (omega arith) (omega arith)))

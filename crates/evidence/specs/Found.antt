@@ -1,7 +1,7 @@
--- What Evidence finds in a state, where so many pairs are lent.
+-- What Evidence finds in a state, where `room` pairs are lent.
 use mathlib.Core.Path.{_≡_}
 use Prim.Native.Nat.{ℕ, _≤_}
-use Rattle.frame.specs.Mark.{MarkId}
+use Rattle.frame.specs.Names.{MarkId}
 use Rattle.causality.specs.Evidence.{evidence, evidenceChain}
 use Rattle.causality.specs.Marks.{places}
 use Rattle.causality.specs.Meaning.{proving}

@@ -4,18 +4,17 @@ ghost use Prim.Native.Nat.{min, max, _+_, _≤_, _<_};
 ghost use lib.ListN.{length};
 ghost use Rattle.causality.specs.Marks.{places};
 ghost use Rattle.causality.specs.Meaning.{idOf};
-ghost use Rattle.concurrent.specs.Steps.{Tells};
+ghost use Rattle.concurrent.specs.inner.Steps.{Tells};
 ghost use Rattle.evidence.specs.Found.{EvidenceFound};
-ghost use Rattle.evidence.specs.Steps.{LowestReached, PlaceBelow, SteppedBack};
-ghost use Rattle.evidence.specs.Steps.{CountsOf, GoneBack, HasMark, Reversed, slots, verdictAt};
+ghost use Rattle.evidence.specs.inner.Steps.{LowestReached, PlaceBelow, SteppedBack, CountsOf, GoneBack, HasMark, Reversed, slots, verdictAt};
 ghost use Rattle.pairs.specs.Pairs.{Spare};
-ghost use Rattle.queries.specs.Lent.{HasLent, OfEach};
+ghost use Rattle.queries.specs.inner.Lent.{HasLent, OfEach};
 ghost use Rattle.rows.specs.View.{width};
-use causality::Evidence;
-use causality::MarkId;
+use causality::EvidenceAnswer;
 use causality::Place;
 use concurrent::first_followers;
 use concurrent::reaches;
+use frame::MarkId;
 use frame::Number;
 use frame::Refusal;
 use pairs::Listed;
@@ -26,7 +25,7 @@ use rows::WIDTH;
 // What Evidence finds: the chain from the earlier mark to the later one; none beside a refusal and of concurrent marks.
 pub struct EvidenceList {
     pub list: Listed,
-    pub answer: Evidence,
+    pub answer: EvidenceAnswer,
 }
 
 // The index of the lowest desk whose entry, in row q of the stamps, is a follower that the row tells of; the width if there is none.
@@ -135,17 +134,17 @@ fn higher(p: usize, q: usize) -> usize
     if p < q { q } else { p }
 }
 
-// The verdict where there is a chain of so many between two places.
-fn verdict(p: usize, q: usize, length: usize) -> Evidence
+// The verdict where there is a chain of `length` marks between two places.
+fn verdict(p: usize, q: usize, length: usize) -> EvidenceAnswer
     ensures { λ r. ⌜ r ≡ verdictAt p q length ⌝ }
 {
     if p == q {
-        return Evidence::Same(length);
+        return EvidenceAnswer::Same(length);
     }
     if p < q {
-        return Evidence::Before(length);
+        return EvidenceAnswer::Before(length);
     }
-    Evidence::After(length)
+    EvidenceAnswer::After(length)
 }
 
 // The counts behind Concurrent: for each of two marks how many of its desk precede the other. The mark itself does not, so those before it are asked for.
@@ -155,7 +154,7 @@ fn counts<'a>(
     stamps: &'a [u16; PLACES * WIDTH],
     p: Place,
     q: Place,
-) -> Evidence
+) -> EvidenceAnswer
     requires { ⌜ HasMark width (now desks) (now numbers) (p .0) × HasMark width (now desks) (now numbers) (q .0) ⌝ }
     ensures { λ r. ⌜ CountsOf width (now (desks .entry)) (now (numbers .entry)) (now (stamps .entry)) (p .0) (q .0) r ⌝ }
 {
@@ -163,11 +162,11 @@ fn counts<'a>(
     let j = q.0;
     let first = in_past(desks, numbers, stamps, q, desks[i], numbers[i] - 1);
     let second = in_past(desks, numbers, stamps, p, desks[j], numbers[j] - 1);
-    Evidence::Concurrent(first, second)
+    EvidenceAnswer::Concurrent(first, second)
 }
 
 // An answer with no chain: a refusal, or Concurrent.
-fn alone(answer: Evidence) -> EvidenceList
+fn alone(answer: EvidenceAnswer) -> EvidenceList
     ensures { λ r. ⌜ (r .answer ≡ answer) × (r .list .count ≡ 0) × Spare (r .list) ⌝ }
 {
     let list = Listed {
@@ -186,7 +185,7 @@ fn shown<'a>(
     ds: &'a [u8; PLACES],
     ns: &'a [u16; PLACES],
     length: usize,
-    answer: Evidence,
+    answer: EvidenceAnswer,
 ) -> EvidenceList
     requires { ⌜ length ≤ places ⌝ }
     ensures { λ r. ⌜ (r .answer ≡ answer) × Reversed (slots (now (ds .entry)) (now (ns .entry)) length) (r .list) ⌝ }
@@ -227,10 +226,10 @@ pub fn evidence_list<'a>(
     let p = executed::find(tally, last, before, a);
     let q = executed::find(tally, last, before, b);
     if PLACES <= p {
-        return alone(Evidence::Refused(Refusal::NotExecuted));
+        return alone(EvidenceAnswer::Refused(Refusal::NotExecuted));
     }
     if PLACES <= q {
-        return alone(Evidence::Refused(Refusal::NotExecuted));
+        return alone(EvidenceAnswer::Refused(Refusal::NotExecuted));
     }
     let from = lower(p, q);
     let to = higher(p, q);
@@ -251,7 +250,7 @@ pub fn evidence_list<'a>(
         &mut ns,
     );
     if room < length {
-        return alone(Evidence::Refused(Refusal::OutputShort));
+        return alone(EvidenceAnswer::Refused(Refusal::OutputShort));
     }
     shown(&ds, &ns, length, verdict(p, q, length))
 }

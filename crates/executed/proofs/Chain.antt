@@ -8,19 +8,21 @@ use mathlib.Core.Logic.{_⊎_, inl, inr, ⊎-elim}
 use mathlib.Core.Option.{Option, none, some}
 use mathlib.Core.Path.{_∙_, _≡_, ap, refl, subst, sym}
 use native.Mathlib.Omega.{arith}
-use Rattle.frame.specs.Mark.{MarkId}
+use Rattle.frame.specs.Names.{MarkId}
 use Rattle.causality.specs.Marks.{find, has, places, same, tally}
 use Rattle.causality.specs.State.{Mark, ids, markId}
 use Rattle.causality.proofs.Lists.{find-has, isSome}
 use Rattle.causality.proofs.Logic.{T→eq, nT→eq, or-cases, same-refl, same→eq, split}
-use Rattle.causality.proofs.Past.{Counted, fresh-of, prefix-has, prefix-le, tally-same}
-use Rattle.executed.specs.Rows.{Chain, Chained, Finds, Lent, PlaceOf, Rows, lastIn, placeIn}
+use Rattle.causality.proofs.Past.{fresh-of, prefix-has, prefix-le, tally-same}
+use Rattle.causality.specs.inner.Order.{Consecutive, CausallyOrdered}
+use Rattle.executed.specs.inner.Rows.{Chain, Chained, Finds, Lent, PlaceOf, Rows, lastIn, placeIn}
 use Rattle.executed.proofs.HeadRow.{eq→eqb}
 use Rattle.executed.proofs.Keeping.{ids-length}
-use Rattle.rows.specs.View.{Carried, Named, carriedAt, markAt, namesDown, placeAt, view, width}
+use Rattle.rows.specs.View.{Carried, carriedAt, markAt, namesDown, view, width}
+use Rattle.rows.specs.inner.Slots.{Named, placeAt}
 use Rattle.rows.proofs.Arrays.{view-length}
 use Rattle.rows.proofs.Places.{ids-names, named-has}
-use Rattle.causality.proofs.Reach.{Sound, sound-counted}
+use Rattle.causality.proofs.Reach.{sound-counted}
 use borrow.Author.Tests.{le-ltb, lt-ltb}
 
 abbrev name : ℕ → ℕ → MarkId
@@ -44,7 +46,7 @@ place-some (i ∷ is) a t = elim (split (same a i)) [
 ]
 
 -- The last mark of a desk is the one of the number of its tally.
-pub last-place : (d : ℕ) (is : List MarkId) → Counted is → 1 ≤ tally d is → lastIn d is ≡ placeIn is (name d (tally d is))
+pub last-place : (d : ℕ) (is : List MarkId) → Consecutive is → 1 ≤ tally d is → lastIn d is ≡ placeIn is (name d (tally d is))
 last-place d [] c p = refl
 last-place d (i ∷ is) c p = go (split (eqb d (i .desk))) (last-place d is (c .1))
   where
@@ -60,7 +62,7 @@ last-place d (i ∷ is) c p = go (split (eqb d (i .desk))) (last-place d is (c .
         rw (nT→eq (eqb d (i .desk)) t, lastIn) (ih (omega arith) ∙ ap (λ (k : ℕ). placeIn is (name d k)) (sym n) ∙ sym (place-there i is (name d (tally d (i ∷ is))) ne))
 
 -- From the place of d.n the chain leads to that of d.(n − 1).
-pub chain-step : (d n : ℕ) (is : List MarkId) (bf : List ℕ) → Counted is → Chained is bf → 1 ≤ n → suc n ≤ tally d is → getD bf (placeIn is (name d (suc n)) - 1) 0 ≡ placeIn is (name d n)
+pub chain-step : (d n : ℕ) (is : List MarkId) (bf : List ℕ) → Consecutive is → Chained is bf → 1 ≤ n → suc n ≤ tally d is → getD bf (placeIn is (name d (suc n)) - 1) 0 ≡ placeIn is (name d n)
 chain-step d n [] bf c h p q = let z : ⊥ = omega arith in absurd z
 chain-step d n (i ∷ is) bf c h p q = go (split (same a i)) (chain-step d n is bf (c .1) (h .1) p)
   where
@@ -148,7 +150,7 @@ module _ (w : ℕ) (ds ns : List ℕ) (bs : ℕ → Carried) (ss : List ℕ) whe
 -- LENT ARRAYS
 
 -- Those of marks that stand behind what they follow.
-pub lent-of : (count : ℕ) (ds ns : List ℕ) (bs : ℕ → Carried) (ss ts hs ls bf : List ℕ) → Rows (view width count ds ns bs ss) ts hs ls bf → Sound (view width count ds ns bs ss)
+pub lent-of : (count : ℕ) (ds ns : List ℕ) (bs : ℕ → Carried) (ss ts hs ls bf : List ℕ) → Rows (view width count ds ns bs ss) ts hs ls bf → CausallyOrdered (view width count ds ns bs ss)
     → Named width count ds → count ≤ places → Lent count ds ns ts ls bf
 lent-of count ds ns bs ss ts hs ls bf r s f h = record {
   few = h;

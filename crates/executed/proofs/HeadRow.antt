@@ -6,24 +6,25 @@ use mathlib.Core.List.{List, _∷_}
 use mathlib.Core.Logic.{_⊎_, inl, inr}
 use mathlib.Core.Path.{_∙_, _≡_, ap, subst, sym}
 use native.Mathlib.Omega.{arith}
-use Rattle.frame.specs.Mark.{MarkId}
+use Rattle.frame.specs.Names.{MarkId}
 use Rattle.causality.specs.Marks.{has, keep, same}
 use Rattle.causality.specs.State.{Mark, heads}
 use Rattle.causality.proofs.Heads.{heads-step}
 use Rattle.causality.proofs.Lists.{has-insert, has-keep, keep-has}
 use Rattle.causality.proofs.Logic.{T→eq, nT→eq, or-cases, or-inl, or-inr, same-refl, same→eq, split}
-use Rattle.causality.proofs.Numbers.{Strict, heads-strict}
+use Rattle.causality.proofs.Numbers.{heads-strict}
+use Rattle.causality.specs.inner.Order.{Strict, CausallyOrdered}
 use Rattle.causality.proofs.Past.{Standing}
-use Rattle.causality.proofs.Reach.{Sound, local, local-hist}
+use Rattle.causality.proofs.Reach.{local, local-hist}
 use Rattle.causality.proofs.RowLaws.{row-entry}
 use Rattle.causality.proofs.Rows.{row-find}
 use Rattle.causality.specs.inner.Passes.{rowOf}
-use Rattle.executed.specs.Rows.{struck, turned}
+use Rattle.executed.specs.inner.Rows.{struck, turned}
 
 pub eq→eqb : (a b : ℕ) → a ≡ b → T (eqb a b)
 eq→eqb a b e = subst (λ (k : ℕ). T (eqb a k)) e (eqb-refl a)
 
-module _ (m : Mark) (older : List Mark) (s : Sound (m ∷ older)) (st : Strict (m .stamp)) (d : ℕ) where
+module _ (m : Mark) (older : List Mark) (s : CausallyOrdered (m ∷ older)) (st : Strict (m .stamp)) (d : ℕ) where
   abbrev unnamed : MarkId → Bool
   unnamed i = not (has i (m .stamp))
 

@@ -8,18 +8,17 @@ use mathlib.Core.List.{List, [], _∷_}
 use mathlib.Core.Logic.{inl, inr}
 use mathlib.Core.Path.{_∙_, _≡_, ap, refl, sym}
 use native.Mathlib.Omega.{arith}
-use Rattle.frame.specs.Mark.{MarkId}
+use Rattle.frame.specs.Names.{MarkId}
 use Rattle.causality.specs.Marks.{places, tally}
 use Rattle.causality.specs.State.{Mark, heads, ids}
 use Rattle.causality.proofs.Logic.{T→eq, nT→eq, split}
-use Rattle.causality.proofs.Numbers.{Strict}
-use Rattle.causality.proofs.Reach.{Sound}
+use Rattle.causality.specs.inner.Order.{Strict, CausallyOrdered}
 use Rattle.causality.specs.inner.Passes.{rowOf}
 use Rattle.rows.specs.View.{width}
-use Rattle.executed.specs.Rows.{Chained, Rows, lastIn, turned}
+use Rattle.executed.specs.inner.Rows.{Chained, Rows, lastIn, turned}
 use Rattle.executed.proofs.HeadRow.{eq→eqb, head-row-step}
 
-tally-step : (m : Mark) (older : List Mark) → Sound (m ∷ older) → (d : ℕ) → tally d (ids (m ∷ older)) ≡ elim (eqb d (m .id .desk)) [ true ↦ m .id .number | false ↦ tally d (ids older) ]
+tally-step : (m : Mark) (older : List Mark) → CausallyOrdered (m ∷ older) → (d : ℕ) → tally d (ids (m ∷ older)) ≡ elim (eqb d (m .id .desk)) [ true ↦ m .id .number | false ↦ tally d (ids older) ]
 tally-step m older s d = go (eqb d (m .id .desk)) refl
   where
     go : (b : Bool) → eqb d (m .id .desk) ≡ b → _≡_ {A = ℕ} (elim b [ true ↦ suc (tally d (ids older)) | false ↦ tally d (ids older) ]) (elim b [ true ↦ m .id .number | false ↦ tally d (ids older) ])
@@ -44,7 +43,7 @@ chained-below : (is : List MarkId) (bf bf′ : List ℕ) → ((p : ℕ) → p < 
 chained-below [] bf bf′ f c = tt
 chained-below (i ∷ is) bf bf′ f c = (f (length is) (omega arith) ∙ c .0, chained-below is bf bf′ (λ p l. f p (omega arith)) (c .1))
 
-module _ (m : Mark) (l : List Mark) (s : Sound (m ∷ l)) (strict : Strict (m .stamp)) (low : 1 ≤ m .id .desk) (high : m .id .desk ≤ width) where
+module _ (m : Mark) (l : List Mark) (s : CausallyOrdered (m ∷ l)) (strict : Strict (m .stamp)) (low : 1 ≤ m .id .desk) (high : m .id .desk ≤ width) where
   module _ (row ts hs ls bf hs′ : List ℕ) (r : Rows l ts hs ls bf) (room : length (ids l) < places)
       (stamp : (j : ℕ) → j < width → rowOf (m .stamp) (suc j) ≡ getD row j 0) (long : length hs′ ≡ width)
       (turn : (j : ℕ) → j < width → getD hs′ j 0 ≡ turned (m .id .desk) (m .id .number) (getD row j 0) (suc j) (getD hs j 0)) where

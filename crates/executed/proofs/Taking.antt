@@ -8,13 +8,15 @@ use native.Mathlib.Omega.{arith}
 use Rattle.causality.specs.Marks.{places}
 use Rattle.causality.specs.State.{Mark, ids}
 use Rattle.causality.proofs.RowLaws.{entries-strict, row-of-entries}
-use Rattle.rows.specs.View.{carriedAt, heldMark, rowFn, width}
-use Rattle.rows.specs.Steps.{Stored}
+use Rattle.rows.specs.View.{carriedAt, width}
+use Rattle.rows.specs.inner.Slots.{heldMark, rowFn}
+use Rattle.rows.specs.inner.Steps.{Stored}
 use Rattle.rows.specs.declared.Held.{Held}
 use Rattle.rows.proofs.Arrays.{view-length}
 use Rattle.rows.proofs.Slots.{stored-slots, stored-view}
-use Rattle.executed.specs.Arrays.{Arrays, Takes, Took, arrays, executedIn}
-use Rattle.executed.specs.Rows.{Rows, Struck, struck, turned}
+use Rattle.executed.specs.Arrays.{Arrays, arrays, executedIn}
+use Rattle.executed.specs.inner.Takes.{Takes, Took}
+use Rattle.executed.specs.inner.Rows.{Rows, Struck, struck, turned}
 use Rattle.executed.proofs.Keeping.{ids-length, rows-step, set-desk}
 
 -- The desk's own head is set in a row whose others were struck.

@@ -12,14 +12,15 @@ use Rattle.frame.specs.declared.MarkBox.{MarkBox}
 use Rattle.frame.specs.declared.Past.the-variants.{Said}
 use Rattle.frame.specs.Answer.{Answer, gives, refuseIf, refused}
 use Rattle.frame.specs.Frame.{overIf}
-use Rattle.frame.specs.Mark.{MarkId, boxRule}
+use Rattle.frame.specs.Names.{MarkId, boxRule}
 use Rattle.causality.specs.Answers.{Executed, Known, Numbered, Reception, Reply, knows}
 use Rattle.causality.specs.Calls.{Received, Release, act, admit, execute, frameOfMark, full, mark, markAnswer, newMark, receiveMark, release, rules, sameFields, stateIf, unmade}
 use Rattle.causality.specs.Kinds.{admitBy, executingBy, judgeBy, markAnswerOf, markOf}
 use Rattle.causality.specs.Marks.{All, all, any, find, has, insert, keep, lowest, rising, same, tally, waitingPlaces, without}
 use Rattle.causality.specs.State.{Mark, State, falseStamp, heads, ids, isHead, markId, precedes, ready, reckoned, sameCount, withPast}
-use Rattle.causality.proofs.Fit.{Fit, fit-size, markSize}
-use Rattle.causality.proofs.Kept.{Kept, new-fit}
+use Rattle.causality.proofs.Fit.{fit-size, markSize}
+use Rattle.causality.specs.inner.Fit.{Fit}
+use Rattle.causality.proofs.Invariant.{Invariant, new-fit}
 use Rattle.causality.proofs.Lists.{Picked, absent-all, all-append, all-map, any-cong, find-all, find-has, has-append, map-append, isSome, lowest-picked, nor-fst, nor-snd, without-all}
 use Rattle.causality.proofs.Logic.{or-cases, same-refl, same→eq}
 use Rattle.causality.proofs.Past.{Good, Standing, Stands, precedes-past, ready-past, ready-stands, tally-le}
@@ -279,7 +280,7 @@ module _ (past : MarkId → List MarkId) where
           → Fit N (newMark d box) → n ≡ record { number = newMark d box .id .number; size = markSize N (newMark d box) } → MarkCase N d box out
 
     -- Mark is the making.
-    pub mark-cases : (N : ℕ) (some-desk : 1 ≤ N) (d : State) (box : MarkBox) (out : List ℕ) → Standing past (d .executed) → Kept N some-desk d → MarkCase N d box out
+    pub mark-cases : (N : ℕ) (some-desk : 1 ≤ N) (d : State) (box : MarkBox) (out : List ℕ) → Standing past (d .executed) → Invariant N some-desk d → MarkCase N d box out
     unfolding markOf markAnswerOf makingBy leaveOut newMark
     mark-cases N some-desk d box out h k = go (boxRule box) (full d) (ltb (length out) (markSize N (newMark d box))) refl refl refl
       where

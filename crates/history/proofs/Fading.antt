@@ -8,7 +8,7 @@ use mathlib.Core.List.{List, [], _∷_}
 use mathlib.Core.Path.{subst}
 use native.Mathlib.Omega.{arith}
 use Rattle.frame.specs.Frame.{at2, at4, bytes2, bytes4, countBad, entriesBad, entryBad, fieldsBad, fieldsOf, frameOf, headOf, lengthBad, outputShort, partBad, pastIn, readEntries, readFields, versionBad, writeSize}
-use Rattle.frame.specs.Mark.{MarkId, boxRule, desks, isDesk, isNumber}
+use Rattle.frame.specs.Names.{MarkId, boxRule, desks, isDesk, isNumber}
 use Rattle.causality.specs.Calls.{fieldsOfMark, frameOfMark, full, markIn, newMark, readMark, sameFields, sizeOfMark, unmade}
 use Rattle.causality.specs.Kinds.{admitBy, executingBy, judgeBy, markAnswerOf, markOf, newOf, receiveOf}
 use Rattle.causality.specs.Marks.{all, has, same}

@@ -5,7 +5,7 @@ use lib.ListN.{replicate}
 use mathlib.Core.List.{List, [], _∷_}
 use mathlib.Core.Logic.{_↔_, inl, inr}
 use mathlib.Core.Path.{subst}
-use Rattle.frame.specs.Mark.{MarkId, boxRule, desks, isDesk}
+use Rattle.frame.specs.Names.{MarkId, boxRule, desks, isDesk}
 use Rattle.causality.specs.Marks.{All, all, has, same}
 use Rattle.causality.proofs.Logic.{and-fst, and-snd, or-cases, same→eq}
 use Rattle.history.specs.Paper.{Chain, IsVector, Links, PaperOver, Precedes, link, onward}

@@ -10,7 +10,7 @@ use mathlib.Core.Path.{_∙_, _≡_, ap, refl, subst, sym}
 use native.Mathlib.Omega.{arith}
 use Rattle.frame.specs.declared.MarkBox.{MarkBox}
 use Rattle.frame.specs.Answer.{Answer, gives, refused}
-use Rattle.frame.specs.Mark.{MarkId, boxRule, desks, isDesk}
+use Rattle.frame.specs.Names.{MarkId, boxRule, desks, isDesk}
 use Rattle.causality.specs.Answers.{Numbered}
 use Rattle.causality.specs.Calls.{earlier, markIn}
 use Rattle.causality.specs.Marks.{All, any, find, has, keep, same, tally}
@@ -18,7 +18,7 @@ use Rattle.causality.specs.State.{Mark, State, concurrent, ids, markId, precede
 use Rattle.causality.proofs.Fit.{fit-back}
 use Rattle.causality.proofs.Lists.{Picked, all-at, all-names, all-intro, all-map, any-find, any-of, find-all, find-has, has-keep, has-rising, has-self, isSome, keep-has}
 use Rattle.causality.proofs.Logic.{and-fst, and-intro, and-snd, or-cases, or-inr, same-refl, same→eq, split}
-use Rattle.causality.proofs.Numbers.{Strict}
+use Rattle.causality.specs.inner.Order.{Strict}
 use Rattle.causality.proofs.Past.{Good, Standing, behind-all, counted, precedes-past, prefix-has, ready-past, ready-stands}
 use Rattle.history.specs.Evidence.{happenedBefore}
 use Rattle.history.specs.Paper.{Apart, Chain, IsReady, IsVector, Links, MadeAt, Paper, PaperAt, Precedes, RisingDesks, Traced, TracedWith, Uninterrupted, executed-before, generated-before, link, onward, through}

@@ -8,13 +8,14 @@ use mathlib.Core.Option.{Option, Option·map, none, some}
 use mathlib.Core.Path.{_∙_, _≡_, ap, refl, sym}
 use Rattle.frame.specs.declared.Past.the-variants.{Unsaid}
 use Rattle.frame.specs.Answer.{Answer, gives, refused}
-use Rattle.frame.specs.Mark.{MarkId, isDesk}
+use Rattle.frame.specs.Names.{MarkId, isDesk}
 use Rattle.causality.specs.Calls.{frameOfMark, mark, newMark, readMark, receive, receiveMark, toFirstBytes, toFirstMark, toFirstSize, toSecondBytes, toSecondMark, toSecondSize}
 use Rattle.causality.specs.Kinds.{receiveOf}
 use Rattle.causality.specs.Marks.{All, find, has, same, tally}
 use Rattle.causality.specs.State.{Mark, State, ids, markId, withPast}
 use Rattle.causality.proofs.Conversions.{first-front, first-read, second-front, second-gives, second-read}
-use Rattle.causality.proofs.Fit.{Fit, fit-back, fit-front, fit-read}
+use Rattle.causality.proofs.Fit.{fit-back, fit-front, fit-read}
+use Rattle.causality.specs.inner.Fit.{Fit}
 use Rattle.causality.proofs.Lists.{all-names, all-map, has-self}
 use Rattle.causality.proofs.Logic.{T→eq, nT→eq, or-inr, same-refl, same→eq}
 use Rattle.history.specs.Plain.{History, MadeMark, Unmade, handOver, handOverAt, listsAt, madeId, madeIds, making, newMade, ofMark, ofReceive, pastOf, plain, plainStep, recorded}

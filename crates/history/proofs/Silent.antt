@@ -7,13 +7,13 @@ use mathlib.Core.Option.{Option, none, some}
 use mathlib.Core.Path.{_∙_, _≡_, ap, refl, subst, sym}
 use Rattle.frame.specs.declared.MarkBox.{MarkBox}
 use Rattle.frame.specs.Frame.{entriesOf, readEntries}
-use Rattle.frame.specs.Mark.{MarkId, isDesk}
+use Rattle.frame.specs.Names.{MarkId, isDesk}
 use Rattle.causality.specs.Calls.{FromCalls, Later, begun, mark, marked, newMark, receive, received}
 use Rattle.causality.specs.Marks.{All, has}
 use Rattle.causality.specs.Silent.{FollowedHere}
 use Rattle.causality.specs.State.{State, ids, precedes}
 use Rattle.causality.proofs.Fit.{fit-entries, fit-front}
-use Rattle.causality.proofs.Kept.{Kept, kept}
+use Rattle.causality.proofs.Invariant.{Invariant, kept}
 use Rattle.causality.proofs.Lists.{all-map}
 use Rattle.causality.proofs.Past.{precedes-past}
 use Rattle.causality.proofs.Reach.{local, local-hist}
@@ -93,7 +93,7 @@ run-from N x [] = begun x
 run-from N x (t ∷ s) = from-later N (run-from N x s) (run-later N x (t ∷ []) s)
 
 -- What Mark writes has the new mark's stamp.
-mark-writes : (N : ℕ) (sd : 1 ≤ N) (st : State) (b : MarkBox) (lent : List ℕ) (x : ℕ) → Kept N sd st
+mark-writes : (N : ℕ) (sd : 1 ≤ N) (st : State) (b : MarkBox) (lent : List ℕ) (x : ℕ) → Invariant N sd st
     → let o = mark N st b lent in All (λ f. entriesIn N f ≡ newMark st b .stamp) (written x (o .answer) (o .bytes) [])
 mark-writes N sd st b lent x k = go (mark-cases (local (st .executed)) (λ m. Unit {0}) N sd st b lent (local-hist (st .executed) (k .reach .sound)) k)
   where

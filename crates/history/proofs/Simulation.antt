@@ -13,15 +13,16 @@ use Rattle.frame.specs.declared.Past.{Past}
 use Rattle.frame.specs.declared.Past.the-variants.{Said, Unsaid}
 use Rattle.frame.specs.Answer.{Answer, gives, refused}
 use Rattle.frame.specs.Frame.{overIf, pastBad}
-use Rattle.frame.specs.Mark.{MarkId, isDesk}
+use Rattle.frame.specs.Names.{MarkId, isDesk}
 use Rattle.causality.specs.Answers.{Numbered, Reception}
 use Rattle.causality.specs.Calls.{Created, Marked, begun, empty, execute, frameOfMark, mark, newMark, receiveMark, sameFields, toFirstMark, toSecondMark, unmade}
 use Rattle.causality.specs.Kinds.{newOf}
 use Rattle.causality.specs.Marks.{All, any, find, has, keep, rising, same, tally}
 use Rattle.causality.specs.State.{Mark, State, heads, ids, isHead, markId, sameCount, withPast}
 use Rattle.causality.proofs.Conversions.{second-gives}
-use Rattle.causality.proofs.Fit.{Fit, fields-same}
-use Rattle.causality.proofs.Kept.{Kept, fit-with, kept, mark-kept, receive-mark-kept}
+use Rattle.causality.proofs.Fit.{fields-same}
+use Rattle.causality.specs.inner.Fit.{Fit}
+use Rattle.causality.proofs.Invariant.{Invariant, fit-with, kept, mark-kept, receive-mark-kept}
 use Rattle.causality.proofs.Lists.{Picked, all-names, all-map, any-cong, any-find, find-all, find-has, ids-length, isSome, keep-cong}
 use Rattle.causality.proofs.Logic.{and-fst, and-snd, bool-ext, nT→eq, or-cases, or-inr, same-refl, same→eq}
 use Rattle.causality.proofs.Past.{Good, Stands, counted, new-stands, precedes-past, tally-le, tally-same}
@@ -96,7 +97,7 @@ module _ (N : ℕ) (some-desk : 1 ≤ N) (past : MarkId → List MarkId) (regist
 
   pub record Inv (w : MarkRun) (h : History) : Type 0 where
     pub own : (d : ℕ) → isDesk N d ≡ true → (markStateAt N w d) .own ≡ d
-    pub kept : (d : ℕ) → Kept N some-desk (markStateAt N w d)
+    pub kept : (d : ℕ) → Invariant N some-desk (markStateAt N w d)
     pub ok : (d : ℕ) → Consistent past (Registered w) ((markStateAt N w d) .executed) ((markStateAt N w d) .waiting)
     pub made : All (Recorded w) (w .made)
     pub frames : All (Recorded w) (w .frames)
@@ -142,14 +143,14 @@ module _ (N : ℕ) (some-desk : 1 ≤ N) (past : MarkId → List MarkId) (regist
     unfolding after
     grow g i k = let m = look-new (λ e y. tally e (ids ((markStateAt N w e) .executed)) ≤ tally e (ids (y .executed))) (fresh N) (w .states) d x (g d) (i .desk) (omega arith) in omega arith
 
-    put : (isDesk N d ≡ true → x .own ≡ d) → Kept N some-desk x → ((e : ℕ) → tally e (ids ((markStateAt N w d) .executed)) ≤ tally e (ids (x .executed)))
+    put : (isDesk N d ≡ true → x .own ≡ d) → Invariant N some-desk x → ((e : ℕ) → tally e (ids ((markStateAt N w d) .executed)) ≤ tally e (ids (x .executed)))
         → Consistent past (Registered after) (x .executed) (x .waiting) → All (Recorded after) ms → All (Recorded after) fs → ((i : MarkId) → has i (ids fs) ≡ has i (ids ms))
         → (v : History) → v .lists ≡ (d, listsOf past x) ∷ h .lists → v .made ≡ map (madeOf past) ms → v .answers ≡ a ∷ h .answers
         → Inv after v
     unfolding after
     put o kx g k m fr nm v e₁ e₂ e₃ = record {
       own = λ e. look-new (λ e y. isDesk N e ≡ true → y .own ≡ e) (fresh N) (w .states) d x o e (inv .own e);
-      kept = λ e. look-new (λ e y. Kept N some-desk y) (fresh N) (w .states) d x kx e (inv .kept e);
+      kept = λ e. look-new (λ e y. Invariant N some-desk y) (fresh N) (w .states) d x kx e (inv .kept e);
       ok = λ e. look-new (λ e y. Consistent past (Registered after) (y .executed) (y .waiting)) (fresh N) (w .states) d x k e
           (consistent-mono (Registered w) (Registered after) (registered-mono w after (grow g)) ((markStateAt N w e) .executed) ((markStateAt N w e) .waiting) (inv .ok e));
       made = m;
@@ -481,5 +482,5 @@ module _ (N : ℕ) (some-desk : 1 ≤ N) (past : MarkId → List MarkId) (regist
             (λ i. nd′ i ∷ inv .hist i)
             refl))
           where
-            kept-after : mark N x box lent ≡ record { state = execute (newAt box) x; answer = gives n; bytes = overIf (gives n) (frameOfMark (newAt box)) lent } → Kept N some-desk (execute (newAt box) x)
-            kept-after e = subst (λ (o : Marked). Kept N some-desk (o .state)) e (mark-kept N some-desk x box lent (inv .kept d))
+            kept-after : mark N x box lent ≡ record { state = execute (newAt box) x; answer = gives n; bytes = overIf (gives n) (frameOfMark (newAt box)) lent } → Invariant N some-desk (execute (newAt box) x)
+            kept-after e = subst (λ (o : Marked). Invariant N some-desk (o .state)) e (mark-kept N some-desk x box lent (inv .kept d))

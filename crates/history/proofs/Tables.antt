@@ -5,7 +5,7 @@ use lib.ListN.{length}
 use mathlib.Core.List.{List}
 use mathlib.Core.Path.{_≡_, refl}
 use Rattle.frame.specs.Frame.{overIf}
-use Rattle.frame.specs.Mark.{MarkId, isDesk}
+use Rattle.frame.specs.Names.{MarkId, isDesk}
 use Rattle.causality.specs.Marks.{has}
 use Rattle.causality.specs.State.{State, concurrent, ids, precedes}
 use Rattle.causality.specs.Tables.{pairTables, pairTablesCounts, pairsApart, pairsBefore, tables}

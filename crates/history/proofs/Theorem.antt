@@ -12,15 +12,16 @@ use Rattle.frame.specs.declared.MarkBox.{MarkBox}
 use Rattle.frame.specs.declared.Past.{Past}
 use Rattle.frame.specs.declared.Past.the-variants.{Said, Unsaid}
 use Rattle.frame.specs.Answer.{gives, refuseIf, refused}
-use Rattle.frame.specs.Mark.{MarkId, boxRule, desks, isDesk}
+use Rattle.frame.specs.Names.{MarkId, boxRule, desks, isDesk}
 use Rattle.causality.specs.Answers.{After, Before, Concurrent, Same}
 use Rattle.causality.specs.Calls.{fieldsOfMark, isExecuted, isSaid, receiveMark, relate, toFirstMark, toSecondMark}
 use Rattle.causality.specs.Kinds.{relateBy}
 use Rattle.causality.specs.Marks.{All, any, find, has, same, waitingPlaces}
 use Rattle.causality.specs.State.{Mark, State, ids, markId, ready, reckoning, sameCount, withPast}
 use Rattle.causality.proofs.Conversions.{first-size, second-none, second-size}
-use Rattle.causality.proofs.Fit.{Fit, desk-facts, fit-entries, fit-read, markSize}
-use Rattle.causality.proofs.Kept.{fit-with}
+use Rattle.causality.proofs.Fit.{desk-facts, fit-entries, fit-read, markSize}
+use Rattle.causality.specs.inner.Fit.{Fit}
+use Rattle.causality.proofs.Invariant.{fit-with}
 use Rattle.causality.proofs.Reach.{sound-reckoned}
 use Rattle.causality.proofs.Lists.{Picked, all-append, all-intro, all-map, find-all, has-self}
 use Rattle.causality.proofs.Logic.{T→eq, and-fst, and-snd, or-inr, same→eq, split}

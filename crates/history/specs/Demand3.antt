@@ -12,7 +12,7 @@ use Rattle.frame.specs.declared.Past.{Past}
 use Rattle.frame.specs.declared.Past.the-variants.{Said}
 use Rattle.frame.specs.Answer.{Answer, gives, refused}
 use Rattle.frame.specs.Frame.{entriesOf, readEntries, readFields}
-use Rattle.frame.specs.Mark.{MarkId, desks, isDesk}
+use Rattle.frame.specs.Names.{MarkId, desks, isDesk}
 use Rattle.causality.specs.Answers.{Executed, Known, Waiting}
 use Rattle.causality.specs.Calls.{relate}
 use Rattle.causality.specs.Marks.{All, all, any, find, has, same}

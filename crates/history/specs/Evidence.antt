@@ -5,7 +5,7 @@ use lib.ListN.{length}
 use mathlib.Core.Bool.{Bool}
 use mathlib.Core.List.{List}
 use Rattle.frame.specs.Answer.{Answer}
-use Rattle.frame.specs.Mark.{MarkId, isDesk}
+use Rattle.frame.specs.Names.{MarkId, isDesk}
 use Rattle.causality.specs.Answers.{Evidence}
 use Rattle.causality.specs.Evidence.{Proves, evidence, evidencePairs}
 use Rattle.causality.specs.Marks.{All, has, tally}

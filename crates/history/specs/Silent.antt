@@ -6,7 +6,7 @@ use mathlib.Core.Bool.{not}
 use mathlib.Core.List.{List, [], _++_}
 use mathlib.Core.Logic.{_↔_}
 use mathlib.Core.Path.{_≡_}
-use Rattle.frame.specs.Mark.{MarkId, isDesk}
+use Rattle.frame.specs.Names.{MarkId, isDesk}
 use Rattle.frame.specs.declared.MarkBox.{MarkBox}
 use Rattle.causality.specs.Calls.{mark}
 use Rattle.causality.specs.Marks.{All}

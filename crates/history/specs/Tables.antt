@@ -4,7 +4,7 @@ use lib.Dec.{T}
 use mathlib.Core.Bool.{Bool, _&&_, not}
 use mathlib.Core.List.{List}
 use mathlib.Core.Path.{_≡_}
-use Rattle.frame.specs.Mark.{MarkId, isDesk}
+use Rattle.frame.specs.Names.{MarkId, isDesk}
 use Rattle.causality.specs.Marks.{All, same}
 use Rattle.causality.specs.Tables.{pairsApart, pairsBefore, pairsOf}
 use Rattle.history.specs.Evidence.{happenedBefore}

@@ -13,12 +13,13 @@ use Rattle.frame.specs.declared.Writing.{Writing}
 use Rattle.frame.specs.declared.Writing.the-variants.{Refused as NotWritten}
 use Rattle.frame.specs.Answer.{Answer, gives, numberOf, refused}
 use Rattle.frame.specs.Frame.{overIf, readFields, writing}
-use Rattle.frame.specs.Mark.{desks}
+use Rattle.frame.specs.Names.{desks}
 use Rattle.causality.specs.Calls.{andThen, frameAgainBytes, frameAgainSize, frameOfMark, isSaid, markIn, sameFields, sizeOfMark, toFirstBytes, toFirstMark, toFirstSize, toSecondBytes, toSecondMark, toSecondSize}
 use Rattle.causality.specs.Marks.{find}
 use Rattle.causality.specs.State.{Mark, State, markId, withPast}
 use Rattle.rows.specs.View.{pastFrom}
-use Rattle.in_place.specs.Lent.{KeptWritten, ToFirstIn, ToSecondIn}
+use Rattle.in_place.specs.Lent.{ToFirstIn}
+use Rattle.in_place.specs.inner.Steps.{KeptWritten, ToSecondIn}
 
 -- Whether a past is said, by the number that stands for it.
 pub said-some : (n : ℕ) → (n ≡ 0 → ⊥) → isSaid (pastFrom n) ≡ true

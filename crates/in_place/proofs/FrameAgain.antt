@@ -7,20 +7,21 @@ use mathlib.Core.Path.{_∙_, _≡_, ap, sym}
 use Rattle.frame.specs.declared.Refusal.the-variants.{NotExecuted}
 use Rattle.frame.specs.declared.Writing.{Writing}
 use Rattle.frame.specs.declared.Writing.the-variants.{Refused as NotWritten}
-use Rattle.causality.specs.declared.MarkId.{MarkId}
+use Rattle.frame.specs.declared.MarkId.{MarkId}
 use Rattle.rows.specs.declared.Held.{Held}
 use Rattle.frame.specs.Answer.{refused}
 use Rattle.frame.specs.Frame.{overIf, writing}
-use Rattle.frame.specs.Mark.{desks}
+use Rattle.frame.specs.Names.{desks}
 use Rattle.causality.specs.Calls.{frameAgainBytes, frameAgainSize, frameOfMark, sizeOfMark}
 use Rattle.causality.specs.Marks.{find}
 use Rattle.causality.specs.Meaning.{idOf}
 use Rattle.causality.specs.State.{Mark, State, markId}
-use Rattle.rows.specs.View.{carriedAt, heldMark, markAt, placeAt, width}
+use Rattle.rows.specs.View.{carriedAt, markAt, width}
+use Rattle.rows.specs.inner.Slots.{heldMark, placeAt}
 use Rattle.executed.specs.Arrays.{Arrays}
 use Rattle.waiting.specs.declared.Waiting.{Waiting}
 use Rattle.verdict.specs.Kept.{stateIn}
-use Rattle.in_place.specs.Lent.{AgainIn}
+use Rattle.in_place.specs.inner.Steps.{AgainIn}
 use Rattle.rows.proofs.Places.{found-none, found-some}
 
 -- The definition where it is known what is found.

@@ -13,22 +13,25 @@ use Rattle.frame.specs.declared.Past.{Past}
 use Rattle.frame.specs.declared.Past.the-variants.{Said}
 use Rattle.frame.specs.Answer.{Answer}
 use Rattle.frame.specs.Frame.{entryBytes, overIf, writeBytes, writeSize}
-use Rattle.frame.specs.Mark.{MarkId, desks}
+use Rattle.frame.specs.Names.{MarkId, desks}
 use Rattle.causality.specs.Calls.{fieldsOfMark, frameOfMark, newMark, sizeOfMark}
 use Rattle.causality.specs.Marks.{has, places, tally}
 use Rattle.causality.specs.State.{Mark, heads, ids, markId}
-use Rattle.causality.proofs.Fit.{Range}
+use Rattle.causality.specs.inner.Fit.{Range}
 use Rattle.causality.proofs.Lists.{all-names, all-map, tally-length}
 use Rattle.causality.proofs.Numbers.{heads-strict}
 use Rattle.causality.proofs.Past.{Standing, heads-has}
-use Rattle.causality.proofs.Reach.{Sound, local, local-hist, mark-sound}
+use Rattle.causality.proofs.Reach.{local, local-hist, mark-sound}
+use Rattle.causality.specs.inner.Order.{CausallyOrdered}
 use Rattle.causality.specs.Rows.{entriesOfRow}
 use Rattle.causality.specs.inner.Passes.{rowOf}
-use Rattle.rows.specs.View.{heldMark, pastFrom, rowFn, width}
-use Rattle.executed.specs.Arrays.{Arrays, Takes}
+use Rattle.rows.specs.View.{pastFrom, width}
+use Rattle.rows.specs.inner.Slots.{heldMark, rowFn}
+use Rattle.executed.specs.Arrays.{Arrays}
+use Rattle.executed.specs.inner.Takes.{Takes}
 use Rattle.waiting.specs.declared.Waiting.{Waiting}
 use Rattle.verdict.specs.Kept.{KeptIn, stateIn}
-use Rattle.in_place.specs.Lent.{nextHeld}
+use Rattle.in_place.specs.inner.Steps.{nextHeld}
 use Rattle.rows.proofs.ByRows.{row-at, row-entries}
 use Rattle.verdict.proofs.Invariant.{executed-length, kept-count, kept-fit, kept-own, kept-sound}
 
@@ -97,5 +100,5 @@ module _ (own : ℕ) (a : Arrays) (q : Waiting) (k : KeptIn own a q) where
         room = l;
         low = omega arith;
         high = omega arith;
-        sound = subst (λ (m : Mark). Sound (m ∷ (stateIn own a q) .executed)) (sym e) (mark-sound (stateIn own a q) b (kept-sound own a q k), kept-sound own a q k);
+        sound = subst (λ (m : Mark). CausallyOrdered (m ∷ (stateIn own a q) .executed)) (sym e) (mark-sound (stateIn own a q) b (kept-sound own a q k), kept-sound own a q k);
       }

@@ -10,24 +10,25 @@ use native.Mathlib.Omega.{arith}
 use Rattle.frame.specs.declared.MarkBox.{MarkBox}
 use Rattle.frame.specs.declared.Refusal.{Refusal}
 use Rattle.frame.specs.declared.Refusal.the-variants.{DeskFull, FieldRange}
-use Rattle.causality.specs.declared.Marked.{Marked as Marking}
-use Rattle.causality.specs.declared.Marked.the-variants.{Made, Refused as NotMarked}
+use Rattle.causality.specs.declared.MarkAnswer.{MarkAnswer as Marking}
+use Rattle.causality.specs.declared.MarkAnswer.the-variants.{Made, Refused as NotMarked}
 use Rattle.rows.specs.declared.Held.{Held}
 use Rattle.frame.specs.Answer.{Answer, gives, numberOf, refuseIf, refused}
 use Rattle.frame.specs.Frame.{overIf}
-use Rattle.frame.specs.Mark.{boxRule, desks}
+use Rattle.frame.specs.Names.{boxRule, desks}
 use Rattle.causality.specs.Answers.{Numbered}
 use Rattle.causality.specs.Calls.{FromCalls, Marked, execute, frameOfMark, full, mark, markAnswer, marked, newMark, numbered, sizeOfMark, stateIf}
 use Rattle.causality.specs.Kinds.{markAnswerOf, markOf}
 use Rattle.causality.specs.Marks.{places}
 use Rattle.causality.specs.Meaning.{numbering}
 use Rattle.causality.specs.State.{Mark, State}
-use Rattle.rows.specs.View.{heldMark}
-use Rattle.executed.specs.Arrays.{Arrays, Ordered, Took}
+use Rattle.rows.specs.inner.Slots.{heldMark}
+use Rattle.executed.specs.Arrays.{Arrays}
+use Rattle.executed.specs.inner.Takes.{Ordered, Took}
 use Rattle.waiting.specs.declared.Waiting.{Waiting}
 use Rattle.verdict.specs.Kept.{KeptIn, stateIn}
 use Rattle.verdict.proofs.Invariant.{executed-length, kept-total, waiting-length}
-use Rattle.in_place.specs.Lent.{MarkedIn}
+use Rattle.in_place.specs.inner.Steps.{MarkedIn}
 
 -- The definition where its tests and the writer's answer are known.
 module _ (st : State) (b : MarkBox) (out : List ℕ) where

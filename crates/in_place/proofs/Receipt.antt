@@ -1,5 +1,5 @@
 -- Receive, from what comes of the mark in a frame to the promise. Assumes nothing.
-use Rattle.causality.specs.declared.Received.{Received as Receipt}
+use Rattle.causality.specs.declared.ReceiveAnswer.{ReceiveAnswer as Receipt}
 use Prim.Native.Nat.{_<_, suc, ℕ}
 use lib.ListN.{getD}
 use mathlib.Core.Bool.{false}
@@ -10,19 +10,20 @@ use Rattle.rows.specs.declared.Held.{Held}
 use Rattle.waiting.specs.declared.Waiting.{Waiting}
 use Rattle.frame.specs.Answer.{gives, refused}
 use Rattle.frame.specs.Frame.{entriesOf, fieldsOf, pastBad, readEntries, readFields}
-use Rattle.frame.specs.Mark.{desks}
+use Rattle.frame.specs.Names.{desks}
 use Rattle.frame.proofs.RoundTrip.{accepted}
 use Rattle.causality.specs.Calls.{FromCalls, Received, markIn, readMark, receive, receiveMark, received}
 use Rattle.causality.specs.Kinds.{receiveOf}
 use Rattle.causality.specs.Meaning.{reception}
 use Rattle.causality.proofs.Fit.{frame-fit}
 use Rattle.causality.specs.inner.Passes.{rowOf}
-use Rattle.rows.specs.View.{heldMark, pastFrom, width}
+use Rattle.rows.specs.View.{pastFrom, width}
+use Rattle.rows.specs.inner.Slots.{heldMark}
 use Rattle.rows.proofs.ByRows.{row-entries}
 use Rattle.executed.specs.Arrays.{Arrays}
 use Rattle.verdict.specs.Kept.{KeptIn, stateIn}
-use Rattle.arrivals.specs.Steps.{Arrived}
-use Rattle.in_place.specs.Lent.{ReceivedIn}
+use Rattle.arrivals.specs.inner.Steps.{Arrived}
+use Rattle.in_place.specs.inner.Steps.{ReceivedIn}
 
 module _ (own : ℕ) (a : Arrays) (q : Waiting) (k : KeptIn own a q) (s : List ℕ) where
   pub receipt-refused : (c : ℕ) (r : Receipt) → refused c ≡ readFields desks s → reception r ≡ refused c → ReceivedIn own a q a q s r

@@ -1,9 +1,10 @@
 // The converter: a frame of edition 1 becomes one of edition 2 at a desk that has executed the mark, and one of edition 2 becomes one of edition 1.
-ghost use Rattle.in_place.specs.Lent.{EachState, KeptWritten, SomeDesk, ToFirstIn, ToSecondIn, againLent};
-ghost use Rattle.rows.specs.View.{heldMark};
+ghost use Rattle.in_place.specs.Lent.{SomeDesk, ToFirstIn, againLent};
+ghost use Rattle.in_place.specs.inner.Steps.{EachState, KeptWritten, ToSecondIn};
+ghost use Rattle.rows.specs.inner.Slots.{heldMark};
 use crate::mark;
 use crate::receive;
-use causality::MarkId;
+use frame::MarkId;
 use frame::Reading;
 use frame::Refusal;
 use frame::Writing;

@@ -1,7 +1,8 @@
 // Frame again over a desk's lent arrays: the frame of an executed mark is written out.
-ghost use Rattle.in_place.specs.Lent.{AgainIn, SomeDesk, EachState, againLent};
+ghost use Rattle.in_place.specs.Lent.{SomeDesk, againLent};
+ghost use Rattle.in_place.specs.inner.Steps.{AgainIn, EachState};
 use crate::mark;
-use causality::MarkId;
+use frame::MarkId;
 use frame::Refusal;
 use frame::Writing;
 use rows::BOX;

@@ -3,13 +3,15 @@ ghost use mathlib.Core.Path.{_≡_};
 ghost use Prim.Native.Nat.{_-_, _≤_};
 ghost use lib.ListN.{length, getD};
 ghost use Rattle.frame.specs.Frame.{writing, overIf};
-ghost use Rattle.frame.specs.Mark.{desks};
+ghost use Rattle.frame.specs.Names.{desks};
 ghost use Rattle.causality.specs.Calls.{frameOfMark, sizeOfMark};
 ghost use Rattle.causality.specs.Marks.{places};
-ghost use Rattle.rows.specs.View.{width, heldMark};
+ghost use Rattle.rows.specs.View.{width};
+ghost use Rattle.rows.specs.inner.Slots.{heldMark};
 ghost use Rattle.executed.specs.Arrays.{here, found, left};
-ghost use Rattle.in_place.specs.Lent.{MarkLent, MarksIn, nextHeld};
-use causality::Marked;
+ghost use Rattle.in_place.specs.Lent.{MarkLent};
+ghost use Rattle.in_place.specs.inner.Steps.{MarksIn, nextHeld};
+use causality::MarkAnswer;
 use frame::Fields;
 use frame::MarkBox;
 use frame::Number;
@@ -45,7 +47,7 @@ pub(crate) fn write_mark(h: Held, out: &mut [u8]) -> Writing
     )
 }
 
-// The mark that a box becomes at desk `own`, where so many are executed: all of them precede it.
+// The mark that a box becomes at desk `own`, where `count` marks are executed: all of them precede it.
 fn next_mark(
     own: u8,
     count: usize,
@@ -82,24 +84,24 @@ pub fn marking(
     waiting: usize,
     extent: MarkBox,
     out: &mut [u8],
-) -> Marked
+) -> MarkAnswer
     requires { ⌜ MarkLent own waiting (here count desks numbers boxes pasts stamps tally heads last before) ⌝ }
     ensures { λ r. ⌜ MarksIn own waiting (found count desks numbers boxes pasts stamps tally heads last before)
         (left count desks numbers boxes pasts stamps tally heads last before) extent out r ⌝ }
 {
     let at = *count;
     if !frame::conditions::box_rule(extent) {
-        return Marked::Refused(Refusal::FieldRange);
+        return MarkAnswer::Refused(Refusal::FieldRange);
     }
     if at + waiting == PLACES {
-        return Marked::Refused(Refusal::DeskFull);
+        return MarkAnswer::Refused(Refusal::DeskFull);
     }
     let t = *tally;
     let row = *heads;
     let h = next_mark(own, at, t, row, extent);
     let size = match write_mark(h, out) {
         Writing::Refused(refusal) => {
-            return Marked::Refused(refusal);
+            return MarkAnswer::Refused(refusal);
         }
         Writing::Size(size) => size,
     };
@@ -117,5 +119,5 @@ pub fn marking(
         h,
     );
     let number = h.number;
-    Marked::Made(number, size)
+    MarkAnswer::Made(number, size)
 }

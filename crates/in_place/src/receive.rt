@@ -2,14 +2,14 @@
 ghost use mathlib.Core.Path.{_≡_};
 ghost use Rattle.frame.specs.Answer.{gives};
 ghost use Rattle.frame.specs.Frame.{readFields};
-ghost use Rattle.frame.specs.Mark.{desks};
+ghost use Rattle.frame.specs.Names.{desks};
 ghost use Rattle.causality.specs.Calls.{markIn};
-ghost use Rattle.rows.specs.View.{heldMark};
+ghost use Rattle.rows.specs.inner.Slots.{heldMark};
 ghost use Rattle.executed.specs.Arrays.{here, found, left};
 ghost use Rattle.waiting.specs.Queue.{here as heldHere, found as heldFound, left as heldLeft};
 ghost use Rattle.verdict.specs.Kept.{KeptIn};
-ghost use Rattle.in_place.specs.Lent.{ReceivedIn};
-use causality::Received;
+ghost use Rattle.in_place.specs.inner.Steps.{ReceivedIn};
+use causality::ReceiveAnswer;
 use frame::Fields;
 use frame::Reading;
 use rows::BOX;
@@ -56,7 +56,7 @@ pub fn receiving(
     wpasts: &mut [u16; WAITING],
     wstamps: &mut [u16; WAITING * WIDTH],
     frame: &[u8],
-) -> Received
+) -> ReceiveAnswer
     requires { ⌜ KeptIn own
         (here count desks numbers boxes pasts stamps tally heads last before) (heldHere waiting wdesks wnumbers wboxes wpasts wstamps) ⌝ }
     ensures { λ r. ⌜ ReceivedIn own
@@ -65,7 +65,7 @@ pub fn receiving(
         (now (frame .entry)) r ⌝ }
 {
     match reader::fields(frame) {
-        Reading::Refused(refusal) => Received::Refused(refusal),
+        Reading::Refused(refusal) => ReceiveAnswer::Refused(refusal),
         Reading::Fields(f) => {
             let h = mark_in(f, frame);
             arrivals::arrive::arrive(

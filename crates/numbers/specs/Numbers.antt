@@ -5,44 +5,44 @@ use Rattle.frame.specs.Frame.{editionOf}
 use Rattle.frame.specs.declared.MarkBox.{MarkBox}
 use Rattle.frame.specs.declared.Past.{Past}
 use Rattle.frame.specs.declared.Past.the-variants.{Unsaid, Said}
-use Rattle.rows.specs.View.{noBox}
+use Rattle.rows.specs.inner.Slots.{noBox}
 use Rattle.frame.specs.declared.Reading.{Reading}
 use Rattle.frame.specs.declared.Reading.the-variants.{Fields as IsRead, Refused as NotRead}
 use Rattle.frame.specs.declared.Writing.{Writing}
 use Rattle.frame.specs.declared.Writing.the-variants.{Size, Refused as NotWritten}
-use Rattle.causality.specs.declared.Created.{Created}
-use Rattle.causality.specs.declared.Created.the-variants.{Empty, Refused as NotCreated}
-use Rattle.causality.specs.declared.Marked.{Marked}
-use Rattle.causality.specs.declared.Marked.the-variants.{Made, Refused as NotMarked}
-use Rattle.causality.specs.declared.Received.{Received}
-use Rattle.causality.specs.declared.Received.the-variants.{Known, Waiting, Executed, Refused as NotReceived}
-use Rattle.causality.specs.declared.Related.{Related}
-use Rattle.causality.specs.declared.Related.the-variants.{Same, Before, After, Concurrent, Refused as NotRelated}
-use Rattle.causality.specs.declared.Evidence.{Evidence}
-use Rattle.causality.specs.declared.Evidence.the-variants.{Same as SameBy, Before as BeforeBy, After as AfterBy, Concurrent as ConcurrentBy, Refused as NoEvidence}
-use Rattle.causality.specs.declared.Lowest.{Lowest}
-use Rattle.causality.specs.declared.Lowest.the-variants.{Number, None, Refused as NoLowest}
-use Rattle.causality.specs.declared.Counted.{Counted}
-use Rattle.causality.specs.declared.Counted.the-variants.{Count, Refused as NotCounted}
+use Rattle.causality.specs.declared.NewAnswer.{NewAnswer}
+use Rattle.causality.specs.declared.NewAnswer.the-variants.{Empty, Refused as NotCreated}
+use Rattle.causality.specs.declared.MarkAnswer.{MarkAnswer}
+use Rattle.causality.specs.declared.MarkAnswer.the-variants.{Made, Refused as NotMarked}
+use Rattle.causality.specs.declared.ReceiveAnswer.{ReceiveAnswer}
+use Rattle.causality.specs.declared.ReceiveAnswer.the-variants.{Known, Waiting, Executed, Refused as NotReceived}
+use Rattle.causality.specs.declared.RelateAnswer.{RelateAnswer}
+use Rattle.causality.specs.declared.RelateAnswer.the-variants.{Same, Before, After, Concurrent, Refused as NotRelated}
+use Rattle.causality.specs.declared.EvidenceAnswer.{EvidenceAnswer}
+use Rattle.causality.specs.declared.EvidenceAnswer.the-variants.{Same as SameBy, Before as BeforeBy, After as AfterBy, Concurrent as ConcurrentBy, Refused as NoEvidence}
+use Rattle.causality.specs.declared.FirstApartAnswer.{FirstApartAnswer}
+use Rattle.causality.specs.declared.FirstApartAnswer.the-variants.{Number, None, Refused as NoLowest}
+use Rattle.causality.specs.declared.ApartAnswer.{ApartAnswer}
+use Rattle.causality.specs.declared.ApartAnswer.the-variants.{Count, Refused as NotCounted}
 
-abbrev pub createdNumber : Created → ℕ
+abbrev pub createdNumber : NewAnswer → ℕ
 createdNumber Empty = 0
 createdNumber (NotCreated r) = numberOf r
 
 -- Refusal, number, size.
-abbrev pub markedNumbers : Marked → ℕ × ℕ × ℕ
+abbrev pub markedNumbers : MarkAnswer → ℕ × ℕ × ℕ
 markedNumbers (Made n size) = (0, n .0, size)
 markedNumbers (NotMarked r) = (numberOf r, 0, 0)
 
 -- Refusal; 1 Known, 2 Waiting, 3 Executed; k; f; of Waiting the number of missing marks.
-abbrev pub receivedNumbers : Received → ℕ × ℕ × ℕ × ℕ × ℕ
+abbrev pub receivedNumbers : ReceiveAnswer → ℕ × ℕ × ℕ × ℕ × ℕ
 receivedNumbers Known = (0, 1, 0, 0, 0)
 receivedNumbers (Waiting missing) = (0, 2, 0, 0, missing)
 receivedNumbers (Executed k f) = (0, 3, k, f, 0)
 receivedNumbers (NotReceived r) = (numberOf r, 0, 0, 0, 0)
 
 -- Refusal; 1 Same, 2 Before, 3 After, 4 Concurrent.
-abbrev pub relatedNumbers : Related → ℕ × ℕ
+abbrev pub relatedNumbers : RelateAnswer → ℕ × ℕ
 relatedNumbers Same = (0, 1)
 relatedNumbers Before = (0, 2)
 relatedNumbers After = (0, 3)
@@ -50,7 +50,7 @@ relatedNumbers Concurrent = (0, 4)
 relatedNumbers (NotRelated r) = (numberOf r, 0)
 
 -- Refusal; as of Relate; the chain's length; the two counts.
-abbrev pub evidenceNumbers : Evidence → ℕ × ℕ × ℕ × ℕ × ℕ
+abbrev pub evidenceNumbers : EvidenceAnswer → ℕ × ℕ × ℕ × ℕ × ℕ
 evidenceNumbers (SameBy n) = (0, 1, n, 0, 0)
 evidenceNumbers (BeforeBy n) = (0, 2, n, 0, 0)
 evidenceNumbers (AfterBy n) = (0, 3, n, 0, 0)
@@ -58,12 +58,12 @@ evidenceNumbers (ConcurrentBy x y) = (0, 4, 0, x, y)
 evidenceNumbers (NoEvidence r) = (numberOf r, 0, 0, 0, 0)
 
 -- Refusal; how many.
-abbrev pub countedNumbers : Counted → ℕ × ℕ
+abbrev pub countedNumbers : ApartAnswer → ℕ × ℕ
 countedNumbers (Count n) = (0, n)
 countedNumbers (NotCounted r) = (numberOf r, 0)
 
 -- Refusal; the lowest number, or 0.
-abbrev pub lowestNumbers : Lowest → ℕ × ℕ
+abbrev pub lowestNumbers : FirstApartAnswer → ℕ × ℕ
 lowestNumbers (Number n) = (0, n .0)
 lowestNumbers None = (0, 0)
 lowestNumbers (NoLowest r) = (numberOf r, 0)

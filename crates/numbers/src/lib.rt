@@ -2,20 +2,20 @@
 ghost use mathlib.Core.Path.{_≡_};
 ghost use Rattle.numbers.specs.Numbers.{createdNumber, markedNumbers, receivedNumbers, relatedNumbers};
 ghost use Rattle.numbers.specs.Numbers.{evidenceNumbers, countedNumbers, lowestNumbers, writtenNumbers, editionNumber, countNumber, readNumbers};
-use causality::Counted;
-use causality::Created;
-use causality::Evidence;
-use causality::Lowest;
-use causality::Marked;
-use causality::Received;
-use causality::Related;
+use causality::ApartAnswer;
+use causality::EvidenceAnswer;
+use causality::FirstApartAnswer;
+use causality::MarkAnswer;
+use causality::NewAnswer;
+use causality::ReceiveAnswer;
+use causality::RelateAnswer;
 use frame::MarkBox;
 use frame::Past;
 use frame::Reading;
 use frame::Writing;
 
 #[repr(C)]
-pub struct MarkAnswer {
+pub struct MarkNumbers {
     pub refusal: u8,
     pub number: u16,
     pub size: usize,
@@ -23,7 +23,7 @@ pub struct MarkAnswer {
 
 // kind: 1 Known, 2 Waiting, 3 Executed. missing: of Waiting, how many marks are.
 #[repr(C)]
-pub struct ReceiveAnswer {
+pub struct ReceiveNumbers {
     pub refusal: u8,
     pub kind: u8,
     pub executed: u16,
@@ -33,15 +33,15 @@ pub struct ReceiveAnswer {
 
 // relation: 1 Same, 2 Before, 3 After, 4 Concurrent.
 #[repr(C)]
-pub struct RelateAnswer {
+pub struct RelateNumbers {
     pub refusal: u8,
     pub relation: u8,
 }
 
-// relation: as in RelateAnswer. length: of the chain. first, second: of Concurrent, how many marks of the first mark's desk the second has in its past,
+// relation: as in RelateNumbers. length: of the chain. first, second: of Concurrent, how many marks of the first mark's desk the second has in its past,
 // and the other way.
 #[repr(C)]
-pub struct EvidenceAnswer {
+pub struct EvidenceNumbers {
     pub refusal: u8,
     pub relation: u8,
     pub length: usize,
@@ -50,26 +50,26 @@ pub struct EvidenceAnswer {
 }
 
 #[repr(C)]
-pub struct ApartAnswer {
+pub struct ApartNumbers {
     pub refusal: u8,
     pub count: usize,
 }
 
 #[repr(C)]
-pub struct FirstAnswer {
+pub struct FirstApartNumbers {
     pub refusal: u8,
     pub number: u16,
 }
 
 #[repr(C)]
-pub struct WriteAnswer {
+pub struct WriteNumbers {
     pub refusal: u8,
     pub size: usize,
 }
 
 // edition: 1 or 2. past: in edition 2 the past count. The entries are that many bytes from offset 23 of a frame of edition 1, from 25 of one of edition 2.
 #[repr(C)]
-pub struct ReadAnswer {
+pub struct ReadNumbers {
     pub refusal: u8,
     pub desk: u8,
     pub number: u16,
@@ -79,25 +79,25 @@ pub struct ReadAnswer {
     pub entries: usize,
 }
 
-pub fn created(answer: Created) -> u8
+pub fn created(answer: NewAnswer) -> u8
     ensures { λ r. ⌜ createdNumber answer ≡ r ⌝ }
 {
     match answer {
-        Created::Empty => 0,
-        Created::Refused(refusal) => refusal.number(),
+        NewAnswer::Empty => 0,
+        NewAnswer::Refused(refusal) => refusal.number(),
     }
 }
 
-pub fn marked(answer: Marked) -> MarkAnswer
+pub fn marked(answer: MarkAnswer) -> MarkNumbers
     ensures { λ r. ⌜ markedNumbers answer ≡ (r .refusal, r .number, r .size) ⌝ }
 {
     match answer {
-        Marked::Made(n, size) => MarkAnswer {
+        MarkAnswer::Made(n, size) => MarkNumbers {
             refusal: 0,
             number: n.0,
             size: size,
         },
-        Marked::Refused(refusal) => MarkAnswer {
+        MarkAnswer::Refused(refusal) => MarkNumbers {
             refusal: refusal.number(),
             number: 0,
             size: 0,
@@ -105,10 +105,10 @@ pub fn marked(answer: Marked) -> MarkAnswer
     }
 }
 
-pub fn received(answer: Received) -> ReceiveAnswer
+pub fn received(answer: ReceiveAnswer) -> ReceiveNumbers
     ensures { λ r. ⌜ receivedNumbers answer ≡ (r .refusal, r .kind, r .executed, r .dropped, r .missing) ⌝ }
 {
-    let mut r = ReceiveAnswer {
+    let mut r = ReceiveNumbers {
         refusal: 0,
         kind: 0,
         executed: 0,
@@ -116,56 +116,56 @@ pub fn received(answer: Received) -> ReceiveAnswer
         missing: 0,
     };
     match answer {
-        Received::Known => {
+        ReceiveAnswer::Known => {
             r.kind = 1;
         }
-        Received::Waiting(missing) => {
+        ReceiveAnswer::Waiting(missing) => {
             r.kind = 2;
             r.missing = missing;
         }
-        Received::Executed(k, f) => {
+        ReceiveAnswer::Executed(k, f) => {
             r.kind = 3;
             r.executed = k;
             r.dropped = f;
         }
-        Received::Refused(refusal) => {
+        ReceiveAnswer::Refused(refusal) => {
             r.refusal = refusal.number();
         }
     }
     r
 }
 
-pub fn related(answer: Related) -> RelateAnswer
+pub fn related(answer: RelateAnswer) -> RelateNumbers
     ensures { λ r. ⌜ relatedNumbers answer ≡ (r .refusal, r .relation) ⌝ }
 {
-    let mut r = RelateAnswer {
+    let mut r = RelateNumbers {
         refusal: 0,
         relation: 0,
     };
     match answer {
-        Related::Same => {
+        RelateAnswer::Same => {
             r.relation = 1;
         }
-        Related::Before => {
+        RelateAnswer::Before => {
             r.relation = 2;
         }
-        Related::After => {
+        RelateAnswer::After => {
             r.relation = 3;
         }
-        Related::Concurrent => {
+        RelateAnswer::Concurrent => {
             r.relation = 4;
         }
-        Related::Refused(refusal) => {
+        RelateAnswer::Refused(refusal) => {
             r.refusal = refusal.number();
         }
     }
     r
 }
 
-pub fn evidenced(answer: Evidence) -> EvidenceAnswer
+pub fn evidenced(answer: EvidenceAnswer) -> EvidenceNumbers
     ensures { λ r. ⌜ evidenceNumbers answer ≡ (r .refusal, r .relation, r .length, r .first, r .second) ⌝ }
 {
-    let mut e = EvidenceAnswer {
+    let mut e = EvidenceNumbers {
         refusal: 0,
         relation: 0,
         length: 0,
@@ -173,73 +173,73 @@ pub fn evidenced(answer: Evidence) -> EvidenceAnswer
         second: 0,
     };
     match answer {
-        Evidence::Same(one) => {
+        EvidenceAnswer::Same(one) => {
             e.relation = 1;
             e.length = one;
         }
-        Evidence::Before(forward) => {
+        EvidenceAnswer::Before(forward) => {
             e.relation = 2;
             e.length = forward;
         }
-        Evidence::After(back) => {
+        EvidenceAnswer::After(back) => {
             e.relation = 3;
             e.length = back;
         }
-        Evidence::Concurrent(first, second) => {
+        EvidenceAnswer::Concurrent(first, second) => {
             e.relation = 4;
             e.first = first;
             e.second = second;
         }
-        Evidence::Refused(refusal) => {
+        EvidenceAnswer::Refused(refusal) => {
             e.refusal = refusal.number();
         }
     }
     e
 }
 
-pub fn counted(answer: Counted) -> ApartAnswer
+pub fn counted(answer: ApartAnswer) -> ApartNumbers
     ensures { λ r. ⌜ countedNumbers answer ≡ (r .refusal, r .count) ⌝ }
 {
     match answer {
-        Counted::Count(n) => ApartAnswer {
+        ApartAnswer::Count(n) => ApartNumbers {
             refusal: 0,
             count: n,
         },
-        Counted::Refused(refusal) => ApartAnswer {
+        ApartAnswer::Refused(refusal) => ApartNumbers {
             refusal: refusal.number(),
             count: 0,
         },
     }
 }
 
-pub fn lowest(answer: Lowest) -> FirstAnswer
+pub fn lowest(answer: FirstApartAnswer) -> FirstApartNumbers
     ensures { λ r. ⌜ lowestNumbers answer ≡ (r .refusal, r .number) ⌝ }
 {
-    let mut r = FirstAnswer {
+    let mut r = FirstApartNumbers {
         refusal: 0,
         number: 0,
     };
     match answer {
-        Lowest::Number(n) => {
+        FirstApartAnswer::Number(n) => {
             r.number = n.0;
         }
-        Lowest::None => {}
-        Lowest::Refused(refusal) => {
+        FirstApartAnswer::None => {}
+        FirstApartAnswer::Refused(refusal) => {
             r.refusal = refusal.number();
         }
     }
     r
 }
 
-pub fn written(answer: Writing) -> WriteAnswer
+pub fn written(answer: Writing) -> WriteNumbers
     ensures { λ r. ⌜ writtenNumbers answer ≡ (r .refusal, r .size) ⌝ }
 {
     match answer {
-        Writing::Size(n) => WriteAnswer {
+        Writing::Size(n) => WriteNumbers {
             refusal: 0,
             size: n,
         },
-        Writing::Refused(refusal) => WriteAnswer {
+        Writing::Refused(refusal) => WriteNumbers {
             refusal: refusal.number(),
             size: 0,
         },
@@ -265,7 +265,7 @@ fn count(past: Past) -> u16
 }
 
 // What the reader gives, with the size of the entries.
-pub fn read(answer: Reading, entries: usize) -> ReadAnswer
+pub fn read(answer: Reading, entries: usize) -> ReadNumbers
     ensures { λ r. ⌜ (readNumbers answer ≡ (r .refusal, r .desk, r .number, r .extent, r .edition, r .past)) × (r .entries ≡ entries) ⌝ }
 {
     match answer {
@@ -273,7 +273,7 @@ pub fn read(answer: Reading, entries: usize) -> ReadAnswer
             let number = f.number;
             let extent = f.extent;
             let past = f.past;
-            ReadAnswer {
+            ReadNumbers {
                 refusal: 0,
                 desk: f.desk,
                 number: number.0,
@@ -283,7 +283,7 @@ pub fn read(answer: Reading, entries: usize) -> ReadAnswer
                 entries: entries,
             }
         }
-        Reading::Refused(refusal) => ReadAnswer {
+        Reading::Refused(refusal) => ReadNumbers {
             refusal: refusal.number(),
             desk: 0,
             number: 0,

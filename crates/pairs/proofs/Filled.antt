@@ -7,10 +7,11 @@ use lib.ListN.{length, set, drop, length-set, length-map, length-reverse}
 use lib.Seq.{drop-cons, set-at}
 use Rattle.frame.specs.Answer.{Answer, gives, refused}
 use Rattle.frame.specs.Frame.{overIf}
-use Rattle.frame.specs.Mark.{MarkId}
-use Rattle.causality.specs.declared.MarkId.{MarkId as CodeId}
+use Rattle.frame.specs.Names.{MarkId}
+use Rattle.frame.specs.declared.MarkId.{MarkId as CodeId}
 use Rattle.causality.specs.Meaning.{idOf}
-use Rattle.pairs.specs.Pairs.{pairAt, filled, marksOf, ListsIf}
+use Rattle.pairs.specs.Pairs.{marksOf, ListsIf}
+use Rattle.pairs.specs.inner.Filled.{pairAt, filled}
 use Rattle.rows.specs.View.{namesDown, nameAt}
 use Rattle.pairs.specs.declared.Listed.{Listed}
 use Rattle.rows.proofs.Down.{down-length}

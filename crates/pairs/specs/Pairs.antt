@@ -1,23 +1,11 @@
 -- Names of marks on flat numbers, and a run of pairs whose first are set to them.
 use mathlib.Core.Path.{_≡_}
 use mathlib.Core.List.{List, reverse}
-use Prim.Native.Nat.{ℕ, zero, suc}
-use lib.ListN.{getD, set}
 use Rattle.frame.specs.Answer.{Answer, gives, refused}
-use Rattle.frame.specs.Mark.{MarkId}
-use Rattle.causality.specs.declared.MarkId.{MarkId as CodeId}
+use Rattle.frame.specs.Names.{MarkId}
 use Rattle.causality.specs.Marks.{places}
 use Rattle.rows.specs.View.{ZeroFrom, namesDown}
 use Rattle.pairs.specs.declared.Listed.{Listed}
-
--- The pair at i.
-abbrev pub pairAt : Listed → ℕ → CodeId
-pairAt list i = record { desk = getD (list .desks) i 0; number = record { 0 = getD (list .numbers) i 0 } }
-
--- The run with its first so many pairs set to those of the list.
-abbrev pub filled : List CodeId → Listed → ℕ → List CodeId
-filled xs list zero = xs
-filled xs list (suc k) = set (filled xs list k) k (pairAt list k)
 
 -- The names of the list, by rising index.
 unfoldable pub marksOf : Listed → List MarkId

@@ -3,8 +3,8 @@ ghost use mathlib.Core.Path.{_≡_};
 ghost use Prim.Native.Nat.{_<_, _≤_};
 ghost use lib.ListN.{length};
 ghost use Rattle.causality.specs.Marks.{places};
-ghost use Rattle.pairs.specs.Pairs.{filled};
-use causality::MarkId;
+ghost use Rattle.pairs.specs.inner.Filled.{filled};
+use frame::MarkId;
 use frame::Number;
 use rows::PLACES;
 

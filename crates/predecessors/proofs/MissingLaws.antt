@@ -11,16 +11,17 @@ use native.Mathlib.Numerals.{one-add, sub-one}
 use native.Mathlib.Omega.{arith}
 use Rattle.frame.specs.declared.MarkBox.{MarkBox}
 use Rattle.frame.specs.declared.Past.{Past}
-use Rattle.frame.specs.Mark.{MarkId}
+use Rattle.frame.specs.Names.{MarkId}
 use Rattle.causality.specs.Marks.{has, keep, tally}
 use Rattle.causality.specs.State.{Mark, ids, lacksPrevious, missing, missingEntries, previous, ready}
 use Rattle.causality.proofs.Logic.{bool-ext, eq→T, split, T→eq, nT→eq}
 use Rattle.causality.proofs.Missing.{ready-missing}
-use Rattle.causality.proofs.Past.{Counted, prefix-has, prefix-le}
+use Rattle.causality.proofs.Past.{prefix-has, prefix-le}
+use Rattle.causality.specs.inner.Order.{Consecutive}
 use Rattle.causality.proofs.RowLaws.{show, shown}
 use Rattle.causality.specs.Rows.{entriesOfRow}
-use Rattle.rows.specs.View.{rowFn}
-use Rattle.predecessors.specs.Steps.{aboveIn, missingBy}
+use Rattle.rows.specs.inner.Slots.{rowFn}
+use Rattle.predecessors.specs.inner.Steps.{aboveIn, missingBy}
 use Rattle.rows.proofs.RowBytes.{entries-more, entryAt, entryIf}
 use Rattle.causality.proofs.Upto.{sum-cong, sum-more}
 use Rattle.causality.specs.inner.Upto.{countTo, sumTo}
@@ -76,7 +77,7 @@ count-entries r p (suc k) = ap (λ (es : List MarkId). length (keep p es)) (entr
     go true false q ih = rw q (omega arith)
     go false b q ih = omega arith
 
-module _ (n : ℕ) (l : List Mark) (c : Counted (ids l)) (t row : List ℕ) (f : (d : ℕ) → 1 ≤ d → d ≤ n → rowFn t d ≡ tally d (ids l)) where
+module _ (n : ℕ) (l : List Mark) (c : Consecutive (ids l)) (t row : List ℕ) (f : (d : ℕ) → 1 ≤ d → d ≤ n → rowFn t d ≡ tally d (ids l)) where
   abbrev absent : MarkId → Bool
   absent e = not (has e (ids l))
 

@@ -10,13 +10,14 @@ use mathlib.Core.Logic.{_⊎_, inl, inr, ⊎-elim}
 use mathlib.Core.Path.{_∙_, _≡_, ap, refl, subst, sym}
 use native.Mathlib.Nat.{eq-or-lt-of-le}
 use native.Mathlib.Omega.{arith}
-use Rattle.frame.specs.Mark.{MarkId}
+use Rattle.frame.specs.Names.{MarkId}
 use Rattle.causality.specs.Marks.{has}
 use Rattle.causality.specs.State.{ids}
 use Rattle.causality.proofs.Logic.{nT→eq, split}
-use Rattle.causality.proofs.Reach.{Sound}
-use Rattle.rows.specs.View.{Carried, nameAt, view, width, rowFn}
-use Rattle.predecessors.specs.Steps.{AllFrom, Oldest, StandsFrom, aboveIn}
+use Rattle.causality.specs.inner.Order.{CausallyOrdered}
+use Rattle.rows.specs.View.{Carried, nameAt, view, width}
+use Rattle.rows.specs.inner.Slots.{rowFn}
+use Rattle.predecessors.specs.inner.Steps.{AllFrom, Oldest, StandsFrom, aboveIn}
 use Rattle.rows.proofs.Places.{not-before}
 use Rattle.causality.proofs.Upto.{count-some, sum-cong, sum-one, sum-part}
 use Rattle.causality.specs.inner.Upto.{countTo}
@@ -184,7 +185,7 @@ module _ (count : ℕ) (ds ns row₀ : List ℕ) where
   left-end row left p w z = record { within = w .turns; from = λ o. let x : ⊥ = omega arith in absurd x; last = w .last }
 
 -- No mark that a row names is among those before the place of the oldest, whatever their stamps.
-pub oldest-before : (ds ns row : List ℕ) (count r : ℕ) → Oldest ds ns row count r → (bs : ℕ → Carried) (ss : List ℕ) → Sound (view width count ds ns bs ss)
+pub oldest-before : (ds ns row : List ℕ) (count r : ℕ) → Oldest ds ns row count r → (bs : ℕ → Carried) (ss : List ℕ) → CausallyOrdered (view width count ds ns bs ss)
     → (j : ℕ) → j < width → 0 < getD row j 0 → has (record { desk = suc j; number = getD row j 0 }) (ids (view width r ds ns bs ss)) ≡ false
 unfolding view
 oldest-before ds ns row count zero o bs ss s j h pos = refl

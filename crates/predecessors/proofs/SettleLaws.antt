@@ -13,9 +13,10 @@ use Rattle.causality.specs.Marks.{tally}
 use Rattle.causality.proofs.Logic.{eq→T, split}
 use Rattle.causality.proofs.Past.{tally-same}
 use Rattle.causality.proofs.RowCounts.{tally-other}
-use Rattle.rows.specs.View.{Named, nameAt, namesDown, rowFn, width}
+use Rattle.rows.specs.View.{nameAt, namesDown, width}
+use Rattle.rows.specs.inner.Slots.{Named, rowFn}
 use Rattle.rows.proofs.RowSteps.{named-last}
-use Rattle.predecessors.specs.Steps.{TallyAt, allCounted, greaterSum}
+use Rattle.predecessors.specs.inner.Steps.{TallyAt, allCounted, greaterSum}
 use Rattle.causality.proofs.Upto.{all-desk, all-more, all-no, sum-more, sum-part}
 use Rattle.causality.specs.inner.Upto.{allTo}
 

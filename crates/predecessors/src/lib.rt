@@ -4,8 +4,9 @@ ghost use Prim.Native.Nat.{max, _≤_, _<_};
 ghost use lib.Dec.{leb};
 ghost use lib.ListN.{length, getD};
 ghost use Rattle.causality.specs.Marks.{places};
-ghost use Rattle.rows.specs.View.{width, Named};
-ghost use Rattle.predecessors.specs.Steps.{Joined, Traced, TallyAt, allCounted, Settled, greaterSum, aboveIn, Oldest, missingBy, falseBy};
+ghost use Rattle.rows.specs.View.{width};
+ghost use Rattle.rows.specs.inner.Slots.{Named};
+ghost use Rattle.predecessors.specs.inner.Steps.{Joined, Traced, TallyAt, allCounted, Settled, greaterSum, aboveIn, Oldest, missingBy, falseBy};
 use causality::Place;
 use rows::PLACES;
 use rows::WIDTH;
@@ -145,7 +146,7 @@ fn above(row: [u16; WIDTH], other: [u16; WIDTH]) -> u16
     n
 }
 
-// The place of the oldest of the marks that a row names: the count where it names none, 0 where not all are among the first so many.
+// The place of the oldest of the marks that a row names: the count where it names none, 0 where not all stand below it.
 pub fn oldest<'a>(
     desks: &'a [u8; PLACES],
     numbers: &'a [u16; PLACES],

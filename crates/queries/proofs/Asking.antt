@@ -8,18 +8,20 @@ use mathlib.Core.List.{List}
 use mathlib.Core.Logic.{inl, inr}
 use mathlib.Core.Path.{_∙_, _≡_, ap, refl, subst, sym}
 use native.Mathlib.Omega.{arith}
-use Rattle.frame.specs.Mark.{MarkId}
+use Rattle.frame.specs.Names.{MarkId}
 use Rattle.causality.specs.Marks.{has, tally}
 use Rattle.causality.specs.State.{ids}
 use Rattle.causality.proofs.Logic.{eq→T, nT→eq, split}
 use Rattle.causality.proofs.Past.{prefix-le}
-use Rattle.causality.proofs.Reach.{Sound, sound-counted}
+use Rattle.causality.proofs.Reach.{sound-counted}
+use Rattle.causality.specs.inner.Order.{CausallyOrdered}
 use Rattle.causality.specs.inner.Passes.{under}
-use Rattle.rows.specs.View.{Carried, Named, namesDown, rowFn, view, width, nameAt}
+use Rattle.rows.specs.View.{Carried, namesDown, view, width, nameAt}
+use Rattle.rows.specs.inner.Slots.{Named, rowFn}
 use Rattle.rows.proofs.Arrays.{sound-below}
 use Rattle.rows.proofs.Places.{ids-names}
 use Rattle.rows.proofs.RowSteps.{one-turn, pass-ended, pass-rest, pass-step}
-use Rattle.queries.specs.Steps.{AskedOf, endsAt}
+use Rattle.queries.specs.inner.Steps.{AskedOf, endsAt}
 use Rattle.queries.proofs.MadeBefore.{tally-few}
 use Rattle.queries.proofs.Reaching.{reach-end, reach-now, reached}
 use Rattle.rows.proofs.Down.{down-length}
@@ -32,12 +34,12 @@ module _ (n : ℕ) (ds ns : List ℕ) (bs : ℕ → Carried) (ss : List ℕ) (i 
   told-counted : i .number ≤ rowFn row (i .desk) → Told
   told-counted h = le-leb (i .number) (rowFn row (i .desk)) h ∙ sym (reach-now n ds ns bs ss i at row h)
 
-  module _ (h : rowFn row (i .desk) < i .number) (s : Sound (view n at ds ns bs ss)) where
+  module _ (h : rowFn row (i .desk) < i .number) (s : CausallyOrdered (view n at ds ns bs ss)) where
     told-none : has i (ids (view n at ds ns bs ss)) ≡ false → Told
     told-none out = let p = h in lt-leb (i .number) (rowFn row (i .desk)) h ∙ sym (reach-end n ds ns bs ss i at at row h (omega arith) s out (omega arith))
 
   -- Where an ask ends the row tells: a mark that is not among those before the place is reached only if the row counts it.
-  pub told-ended : Sound (view n at ds ns bs ss) → endsAt ds ns i at (rowFn row (i .desk)) ≡ true → Told
+  pub told-ended : CausallyOrdered (view n at ds ns bs ss) → endsAt ds ns i at (rowFn row (i .desk)) ≡ true → Told
   told-ended s e = elim (split (leb (i .number) (rowFn row (i .desk)))) [
     | inl t ↦ told-counted (leb→le (i .number) (rowFn row (i .desk)) t)
     | inr t ↦
@@ -112,5 +114,5 @@ module _ (ds ns ss row : List ℕ) (at : ℕ) (i : MarkId) where
       asked-reaches bs = pass-rest width ds ns bs ss (λ d. 0) at r (a .less) f row after (a .counts bs) (i .desk) lo hi
 
       -- It counts the mark if it reaches it.
-      pub asked-told : (bs : ℕ → Carried) → Sound (view width at ds ns bs ss) → leb (i .number) (rowFn after (i .desk)) ≡ leb (i .number) (reached width ds ns bs ss at row (i .desk))
+      pub asked-told : (bs : ℕ → Carried) → CausallyOrdered (view width at ds ns bs ss) → leb (i .number) (rowFn after (i .desk)) ≡ leb (i .number) (reached width ds ns bs ss at row (i .desk))
       asked-told bs s = told-ended width ds ns bs ss i after r (sound-below width at ds ns bs ss s r (a .less)) (a .ends) ∙ ap (leb (i .number)) (asked-reaches bs)

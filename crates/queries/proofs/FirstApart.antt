@@ -7,20 +7,21 @@ use mathlib.Core.Logic.{inl, inr}
 use mathlib.Core.Path.{_∙_, _≡_, ap, refl, subst, sym}
 use native.Mathlib.Omega.{arith}
 use Rattle.frame.specs.Answer.{gives, refuseIf, refused}
-use Rattle.frame.specs.Mark.{MarkId, isDesk}
+use Rattle.frame.specs.Names.{MarkId, isDesk}
 use Rattle.causality.specs.Calls.{earlier, firstApart, lowestNumber}
 use Rattle.causality.specs.Marks.{find, has, keep, places, same, tally}
 use Rattle.causality.specs.State.{Mark, State, concurrent, ids, markId}
 use Rattle.causality.proofs.Apart.{lowestAbove}
 use Rattle.causality.proofs.Logic.{T→eq, nT→eq, same-refl, same→eq, split}
-use Rattle.causality.proofs.Reach.{Sound}
+use Rattle.causality.specs.inner.Order.{CausallyOrdered}
 use Rattle.causality.proofs.Tail.{first-of-run}
-use Rattle.executed.specs.Rows.{Finds, Lent}
+use Rattle.executed.specs.inner.Rows.{Finds, Lent}
 use Rattle.executed.proofs.Chain.{found-inside, found-place}
-use Rattle.rows.specs.View.{Carried, markAt, placeAt, view, width}
+use Rattle.rows.specs.View.{Carried, markAt, view, width}
+use Rattle.rows.specs.inner.Slots.{placeAt}
 use Rattle.rows.proofs.Places.{found-none, found-some, has-at, not-before}
-use Rattle.queries.specs.Lent.{lent}
-use Rattle.queries.specs.Steps.{FirstRunAt, MadeBefore}
+use Rattle.queries.specs.inner.Lent.{queriedState}
+use Rattle.queries.specs.inner.Steps.{FirstRunAt, MadeBefore}
 use Rattle.queries.proofs.MadeBefore.{made-first}
 
 -- The answer by its two tests.
@@ -34,7 +35,7 @@ first-no-desk N st a d e = answer-as N st a d false _ _ e refl refl
 
 module _ (n : ℕ) (ds ns : List ℕ) (bs : ℕ → Carried) (ss : List ℕ) where
   -- The marks executed before that at place p.
-  earlier-at : (count p : ℕ) → Sound (view n count ds ns bs ss) → p < count → earlier ((markAt n ds ns bs ss p) .id) (ids (view n count ds ns bs ss)) ≡ ids (view n p ds ns bs ss)
+  earlier-at : (count p : ℕ) → CausallyOrdered (view n count ds ns bs ss) → p < count → earlier ((markAt n ds ns bs ss p) .id) (ids (view n count ds ns bs ss)) ≡ ids (view n p ds ns bs ss)
   unfolding view
   earlier-at zero p s h = let z : ⊥ = omega arith in absurd z
   earlier-at (suc k) p s h = elim (split (ltb p k)) [
@@ -55,7 +56,7 @@ module _ (n : ℕ) (ds ns : List ℕ) (bs : ℕ → Carried) (ss : List ℕ) whe
       m = markAt n ds ns bs ss k
 
   -- Of a desk's marks before place p those with numbers up to R precede that at p: the lowest of the others.
-  first-at : (count p : ℕ) → Sound (view n count ds ns bs ss) → p < count → (d R : ℕ) → FirstRunAt n ds ns ss p d (tally d (ids (view n p ds ns bs ss))) R
+  first-at : (count p : ℕ) → CausallyOrdered (view n count ds ns bs ss) → p < count → (d R : ℕ) → FirstRunAt n ds ns ss p d (tally d (ids (view n p ds ns bs ss))) R
       → lowestNumber d (keep (concurrent (view n count ds ns bs ss) ((markAt n ds ns bs ss p) .id)) (earlier ((markAt n ds ns bs ss p) .id) (ids (view n count ds ns bs ss))))
       ≡ lowestAbove R (tally d (ids (view n p ds ns bs ss)))
   first-at count p s h d R run =
@@ -69,7 +70,7 @@ module _ (n : ℕ) (ds ns : List ℕ) (bs : ℕ → Carried) (ss : List ℕ) whe
     first-not-executed : (d : ℕ) → isDesk N d ≡ true → count ≤ p → firstApart N (record { own = own; executed = view n count ds ns bs ss; waiting = waiting }) a d ≡ refused 12
     first-not-executed d e h = answer-as N state a d true false _ e (found-none n ds ns bs ss count p a h found .1) refl
 
-    first-given : (d : ℕ) → isDesk N d ≡ true → p < count → Sound (view n count ds ns bs ss) → (R made : ℕ) → made ≡ tally d (ids (view n p ds ns bs ss)) → FirstRunAt n ds ns ss p d made R
+    first-given : (d : ℕ) → isDesk N d ≡ true → p < count → CausallyOrdered (view n count ds ns bs ss) → (R made : ℕ) → made ≡ tally d (ids (view n p ds ns bs ss)) → FirstRunAt n ds ns ss p d made R
         → firstApart N (record { own = own; executed = view n count ds ns bs ss; waiting = waiting }) a d ≡ gives (lowestAbove R made)
     first-given d e h s R made em told =
         let x = found-some n ds ns bs ss count p a h found in
@@ -84,11 +85,11 @@ module _ (count : ℕ) (ds ns ss ts ls bf : List ℕ) (l : Lent count ds ns ts l
   at : placeAt width count p ds ns bs ss ≡ find markId a (view width count ds ns bs ss)
   at = found-place count ds ns ts ls bf l a p f bs ss
 
-  pub first-none : places ≤ p → firstApart width (lent count ds ns ss own bs waiting) a d ≡ refused 12
+  pub first-none : places ≤ p → firstApart width (queriedState count ds ns ss own bs waiting) a d ≡ refused 12
   first-none h = let w = l .few in first-not-executed width ds ns bs ss width own count p waiting a at d e (omega arith)
 
-  pub first-lowest : p < places → Sound (view width count ds ns bs ss) → (R made : ℕ) → MadeBefore ds ns ts ls d p made → FirstRunAt width ds ns ss p d made R
-      → firstApart width (lent count ds ns ss own bs waiting) a d ≡ gives (lowestAbove R made)
+  pub first-lowest : p < places → CausallyOrdered (view width count ds ns bs ss) → (R made : ℕ) → MadeBefore ds ns ts ls d p made → FirstRunAt width ds ns ss p d made R
+      → firstApart width (queriedState count ds ns ss own bs waiting) a d ≡ gives (lowestAbove R made)
   first-lowest h s R made m told =
       let i = found-inside count ds ns ts ls bf l a p f h in
       first-given width ds ns bs ss width own count p waiting a at d e i s R made (made-first count p d made ds ns ts ls bf l m (omega arith) bs ss) told

@@ -8,17 +8,19 @@ use mathlib.Core.List.{List, [], _∷_}
 use mathlib.Core.Logic.{inl, inr}
 use mathlib.Core.Path.{_∙_, _≡_, ap, refl, sym}
 use native.Mathlib.Omega.{arith}
-use Rattle.frame.specs.Mark.{MarkId}
+use Rattle.frame.specs.Names.{MarkId}
 use Rattle.causality.specs.Evidence.{inPast}
 use Rattle.causality.specs.Marks.{has, keep, same, tally}
 use Rattle.causality.specs.State.{Mark, ids, precedes}
 use Rattle.causality.proofs.Lists.{has-self}
 use Rattle.causality.proofs.Logic.{or-inr, split}
-use Rattle.causality.proofs.Past.{Counted, prefix-le, tally-le}
-use Rattle.causality.proofs.Reach.{Sound, sound-counted}
+use Rattle.causality.proofs.Past.{prefix-le, tally-le}
+use Rattle.causality.specs.inner.Order.{Consecutive, CausallyOrdered}
+use Rattle.causality.proofs.Reach.{sound-counted}
 use Rattle.causality.proofs.RowLaws.{under-up}
 use Rattle.causality.specs.inner.Passes.{under, rowOf}
-use Rattle.rows.specs.View.{Carried, Named, nameAt, namesDown, rowFn, view, markAt}
+use Rattle.rows.specs.View.{Carried, nameAt, namesDown, view, markAt}
+use Rattle.rows.specs.inner.Slots.{Named, rowFn}
 use Rattle.rows.proofs.Arrays.{sound-below}
 use Rattle.rows.proofs.Places.{ids-names}
 use Rattle.rows.proofs.Slots.{zeros}
@@ -30,7 +32,7 @@ use Rattle.rows.proofs.Down.{down-more}
 use Rattle.causality.proofs.RowCounts.{row-tally}
 
 -- Of desk d's marks those up to r pass: as many as there are of them.
-tally-run : (d r : ℕ) (p : MarkId → Bool) (is : List MarkId) → Counted is → ((i : MarkId) → T (has i is) → i .desk ≡ d → p i ≡ leb (i .number) r)
+tally-run : (d r : ℕ) (p : MarkId → Bool) (is : List MarkId) → Consecutive is → ((i : MarkId) → T (has i is) → i .desk ≡ d → p i ≡ leb (i .number) r)
     → tally d (keep p is) ≡ min r (tally d is)
 tally-run d r p [] c f = omega arith
 tally-run d r p (i ∷ is) c f = go (eqb d (i .desk)) refl (p i) refl (tally-run d r p is (c .1) (λ j t. f j (or-inr (same j i) (has j is) t)))
@@ -80,7 +82,7 @@ module _ (n : ℕ) (ds ns : List ℕ) (bs : ℕ → Carried) (ss : List ℕ) whe
           omega arith
 
       -- The desk's first mark that it does not count is met, or one before.
-      pub counts-met : Sound (view n at ds ns bs ss) → 0 < at → getD ds (at - 1) 0 ≡ d → getD ns (at - 1) 0 ≤ rowFn row d + 1 → rowFn row d ≡ min most (reached n ds ns bs ss at row d)
+      pub counts-met : CausallyOrdered (view n at ds ns bs ss) → 0 < at → getD ds (at - 1) 0 ≡ d → getD ns (at - 1) 0 ≤ rowFn row d + 1 → rowFn row d ≡ min most (reached n ds ns bs ss at row d)
       counts-met s z e l = counts-no-more (elim (split (leb (getD ns (at - 1) 0) (rowFn row d))) [
         | inl t ↦
             let v = leb→le (getD ns (at - 1) 0) (rowFn row d) t in
@@ -103,12 +105,12 @@ module _ (n : ℕ) (ds ns : List ℕ) (bs : ℕ → Carried) (ss : List ℕ) whe
 
   -- THE PAST OF A MARK
 
-  module _ (count p : ℕ) (h : p < count) (named : Named n p ds) (s : Sound (view n count ds ns bs ss)) (row : List ℕ) (er : (j : ℕ) → j < n → getD row j 0 ≡ getD ss (p * n + j) 0)
+  module _ (count p : ℕ) (h : p < count) (named : Named n p ds) (s : CausallyOrdered (view n count ds ns bs ss)) (row : List ℕ) (er : (j : ℕ) → j < n → getD row j 0 ≡ getD ss (p * n + j) 0)
       (d : ℕ) (lo : 1 ≤ d) (hi : d ≤ n) where
     abbrev l : List Mark
     l = view n count ds ns bs ss
 
-    c : Counted (ids (view n count ds ns bs ss))
+    c : Consecutive (ids (view n count ds ns bs ss))
     c = sound-counted l s
 
     -- It has no more marks of a desk than there are.

@@ -7,15 +7,15 @@ use mathlib.Core.List.{List, [], _∷_}
 use mathlib.Core.Logic.{inl, inr}
 use mathlib.Core.Path.{_∙_, _≡_, ap, refl, subst, sym}
 use native.Mathlib.Omega.{arith}
-use Rattle.frame.specs.Mark.{MarkId}
+use Rattle.frame.specs.Names.{MarkId}
 use Rattle.causality.specs.Marks.{tally}
 use Rattle.causality.specs.State.{ids}
 use Rattle.causality.proofs.Logic.{T→eq, nT→eq, split}
-use Rattle.causality.proofs.Past.{Counted}
-use Rattle.executed.specs.Rows.{Lent, lastIn}
+use Rattle.causality.specs.inner.Order.{Consecutive}
+use Rattle.executed.specs.inner.Rows.{Lent, lastIn}
 use Rattle.rows.specs.View.{Carried, nameAt, namesDown, view, width}
 use Rattle.rows.proofs.Places.{ids-names}
-use Rattle.queries.specs.Steps.{MadeBefore}
+use Rattle.queries.specs.inner.Steps.{MadeBefore}
 use Rattle.rows.proofs.Down.{down-last, down-length, down-less}
 
 -- The newest of the names is of desk d, or another's.
@@ -32,8 +32,8 @@ tally-few d (i ∷ is) = elim (split (eqb d (i .desk))) [ inl t ↦ omega (arith
 
 module _ (ds ns : List ℕ) where
   -- Of counted names the first are counted.
-  pub counted-less : (count p : ℕ) → p ≤ count → Counted (namesDown count ds ns) → Counted (namesDown p ds ns)
-  counted-less count p h c = down-less (nameAt ds ns) Counted (λ i is x. x .1) count p h c
+  pub counted-less : (count p : ℕ) → p ≤ count → Consecutive (namesDown count ds ns) → Consecutive (namesDown p ds ns)
+  counted-less count p h c = down-less (nameAt ds ns) Consecutive (λ i is x. x .1) count p h c
 
   module _ (d : ℕ) where
     -- The desk's last mark stands before place p: so do all.
@@ -69,9 +69,9 @@ module _ (ds ns : List ℕ) where
       none-more f = let l = w .0 in (omega arith, w .1 ∙ other-same q z f)
 
       -- One is met: its number counts them.
-      pub met : getD ds (q - 1) 0 ≡ d → Counted (namesDown p ds ns) → getD ns (q - 1) 0 ≡ tally d (namesDown p ds ns)
+      pub met : getD ds (q - 1) 0 ≡ d → Consecutive (namesDown p ds ns) → getD ns (q - 1) 0 ≡ tally d (namesDown p ds ns)
       met e c =
-          let k = subst Counted (down-last (nameAt ds ns) q z) (counted-less p q (w .0) c) in
+          let k = subst Consecutive (down-last (nameAt ds ns) q z) (counted-less p q (w .0) c) in
           k .0 ∙ ap (λ (x : ℕ). suc (tally x (namesDown (q - 1) ds ns))) e ∙ sym (w .1 ∙ own-more q z e)
 
 -- LENT ARRAYS

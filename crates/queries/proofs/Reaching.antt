@@ -7,14 +7,15 @@ use mathlib.Core.Bool.{false, true}
 use mathlib.Core.List.{List}
 use mathlib.Core.Path.{_∙_, _≡_, ap, subst, sym}
 use native.Mathlib.Omega.{arith}
-use Rattle.frame.specs.Mark.{MarkId}
+use Rattle.frame.specs.Names.{MarkId}
 use Rattle.causality.specs.Marks.{has}
 use Rattle.causality.specs.State.{Mark, ids}
 use Rattle.causality.proofs.Logic.{nT→eq}
-use Rattle.causality.proofs.Reach.{Sound}
+use Rattle.causality.specs.inner.Order.{CausallyOrdered}
 use Rattle.causality.proofs.RowLaws.{under-out, under-up}
 use Rattle.causality.specs.inner.Passes.{under}
-use Rattle.rows.specs.View.{Carried, Named, rowFn, view}
+use Rattle.rows.specs.View.{Carried, view}
+use Rattle.rows.specs.inner.Slots.{Named, rowFn}
 use Rattle.rows.proofs.Places.{has-more}
 use Rattle.rows.proofs.RowSteps.{named-desks, named-less, under-joined, under-passed, view-last}
 
@@ -32,7 +33,7 @@ module _ (n : ℕ) (ds ns : List ℕ) (bs : ℕ → Carried) (ss : List ℕ) whe
 
   -- What it does not count is not reached from places of which none is the mark's.
   pub reach-end : (i : MarkId) (k to : ℕ) (row : List ℕ) → rowFn row (i .desk) < i .number → k ≤ to
-      → Sound (view n k ds ns bs ss) → has i (ids (view n to ds ns bs ss)) ≡ false → 1 ≤ i .number → leb (i .number) (reached k row (i .desk)) ≡ false
+      → CausallyOrdered (view n k ds ns bs ss) → has i (ids (view n to ds ns bs ss)) ≡ false → 1 ≤ i .number → leb (i .number) (reached k row (i .desk)) ≡ false
   reach-end i k to row l h s out pos =
       under-out (view n k ds ns bs ss) s (λ d. 0) (rowFn row) i pos
       (nT→eq (has i (ids (view n k ds ns bs ss))) (not-T (has i (ids (view n k ds ns bs ss))) (λ t. subst T out (has-more n ds ns bs ss k to h i t))))

@@ -6,20 +6,21 @@ use mathlib.Core.List.{List}
 use mathlib.Core.Path.{_∙_, _≡_, ap, refl, subst, sym}
 use native.Mathlib.Omega.{arith}
 use Rattle.frame.specs.Answer.{Answer, gives, refuseIf, refused}
-use Rattle.frame.specs.Mark.{MarkId}
+use Rattle.frame.specs.Names.{MarkId}
 use Rattle.causality.specs.Answers.{After, Before, Concurrent, Relation, Same}
 use Rattle.causality.specs.Calls.{relate}
 use Rattle.causality.specs.Kinds.{relateBy}
 use Rattle.causality.specs.Marks.{find, has, places, same}
 use Rattle.causality.specs.State.{Mark, State, ids, markId, precedes}
 use Rattle.causality.proofs.Logic.{T→eq, nT→eq, same-refl, same→eq}
-use Rattle.causality.proofs.Reach.{Sound}
-use Rattle.executed.specs.Rows.{Finds, Lent}
+use Rattle.causality.specs.inner.Order.{CausallyOrdered}
+use Rattle.executed.specs.inner.Rows.{Finds, Lent}
 use Rattle.executed.proofs.Chain.{found-inside, found-place}
-use Rattle.rows.specs.View.{Carried, nameAt, placeAt, view, width}
+use Rattle.rows.specs.View.{Carried, nameAt, view, width}
+use Rattle.rows.specs.inner.Slots.{placeAt}
 use Rattle.rows.proofs.Places.{found-none, found-some, has-at, not-before, precedes-no-earlier}
-use Rattle.queries.specs.Lent.{lent}
-use Rattle.queries.specs.Steps.{PrecedesAt}
+use Rattle.queries.specs.inner.Lent.{queriedState}
+use Rattle.queries.specs.inner.Steps.{PrecedesAt}
 
 -- The answer by the five tests.
 relate-as : (st : State) (a b : MarkId) (x y s u v : Bool) → has a (ids (st .executed)) ≡ x → has b (ids (st .executed)) ≡ y → same a b ≡ s
@@ -60,7 +61,7 @@ module _ (n count : ℕ) (ds ns : List ℕ) (bs : ℕ → Carried) (ss : List �
           let c : a ≡ b = sym (first .0) ∙ ap (nameAt ds ns) e ∙ second .0 in
           relate-as st a b true true true _ _ (first .1) (second .1) (T→eq (same a b) (rw c (same-refl b))) refl refl
 
-      module _ (s : Sound (view n count ds ns bs ss)) where
+      module _ (s : CausallyOrdered (view n count ds ns bs ss)) where
         -- The answer for marks at different places.
         differing : (u v : Bool) → (a ≡ b → ⊥) → precedes (st .executed) (nameAt ds ns p) (nameAt ds ns q) ≡ u → precedes (st .executed) (nameAt ds ns q) (nameAt ds ns p) ≡ v
             → relate st a b ≡ gives (elim u [ true ↦ Before | false ↦ elim v [ true ↦ After | false ↦ Concurrent ] ])
@@ -93,23 +94,23 @@ module _ (count : ℕ) (ds ns ss ts ls bf : List ℕ) (l : Lent count ds ns ts l
   at-second : placeAt width count q ds ns bs ss ≡ find markId b (view width count ds ns bs ss)
   at-second = found-place count ds ns ts ls bf l b q fb bs ss
 
-  pub relate-no-first : places ≤ p → relate (lent count ds ns ss own bs waiting) a b ≡ refused 12
+  pub relate-no-first : places ≤ p → relate (queriedState count ds ns ss own bs waiting) a b ≡ refused 12
   relate-no-first h = let f = l .few in no-first width count ds ns bs ss own waiting a b p q at-first at-second (omega arith)
 
-  pub relate-no-second : places ≤ q → relate (lent count ds ns ss own bs waiting) a b ≡ refused 12
+  pub relate-no-second : places ≤ q → relate (queriedState count ds ns ss own bs waiting) a b ≡ refused 12
   relate-no-second h = let f = l .few in no-second width count ds ns bs ss own waiting a b p q at-first at-second (omega arith)
 
   module _ (h : p < places) (k : q < places) where
     inside : (p < count) × (q < count)
     inside = (found-inside count ds ns ts ls bf l a p fa h, found-inside count ds ns ts ls bf l b q fb k)
 
-    pub relate-same : p ≡ q → relate (lent count ds ns ss own bs waiting) a b ≡ gives Same
+    pub relate-same : p ≡ q → relate (queriedState count ds ns ss own bs waiting) a b ≡ gives Same
     relate-same = same-place width count ds ns bs ss own waiting a b p q at-first at-second (inside .0) (inside .1)
 
     -- r says whether the earlier mark precedes the later one, and is u.
-    module _ (s : Sound (view width count ds ns bs ss)) (r u : Bool) (v : r ≡ u) where
-      pub relate-forward : p < q → PrecedesAt ds ns ss p q r → relate (lent count ds ns ss own bs waiting) a b ≡ gives (elim u [ true ↦ Before | false ↦ Concurrent ])
+    module _ (s : CausallyOrdered (view width count ds ns bs ss)) (r u : Bool) (v : r ≡ u) where
+      pub relate-forward : p < q → PrecedesAt ds ns ss p q r → relate (queriedState count ds ns ss own bs waiting) a b ≡ gives (elim u [ true ↦ Before | false ↦ Concurrent ])
       relate-forward o e = forward width count ds ns bs ss own waiting a b p q at-first at-second (inside .0) (inside .1) s o u (sym v ∙ e count bs (inside .1) s)
 
-      pub relate-back : q < p → PrecedesAt ds ns ss q p r → relate (lent count ds ns ss own bs waiting) a b ≡ gives (elim u [ true ↦ After | false ↦ Concurrent ])
+      pub relate-back : q < p → PrecedesAt ds ns ss q p r → relate (queriedState count ds ns ss own bs waiting) a b ≡ gives (elim u [ true ↦ After | false ↦ Concurrent ])
       relate-back o e = back width count ds ns bs ss own waiting a b p q at-first at-second (inside .0) (inside .1) s o u (sym v ∙ e count bs (inside .0) s)

@@ -8,13 +8,14 @@ use mathlib.Core.List.{List}
 use mathlib.Core.Path.{_∙_, _≡_, ap, refl, sym}
 use native.Mathlib.Omega.{arith}
 use Rattle.causality.specs.Marks.{places, tally}
-use Rattle.causality.proofs.Reach.{Sound}
+use Rattle.causality.specs.inner.Order.{CausallyOrdered}
 use Rattle.causality.proofs.RowLaws.{under-up}
-use Rattle.rows.specs.View.{Carried, Named, namesDown, rowAt, rowFn, view, width, nameAt}
+use Rattle.rows.specs.View.{Carried, namesDown, rowAt, view, width, nameAt}
+use Rattle.rows.specs.inner.Slots.{Named, rowFn}
 use Rattle.rows.proofs.Arrays.{sound-below}
 use Rattle.rows.proofs.RowSteps.{named-less}
 use Rattle.queries.specs.Halving.{halving, middle, mostAsks}
-use Rattle.queries.specs.Steps.{AskedOf, SearchedOf, numberPrecedes}
+use Rattle.queries.specs.inner.Steps.{AskedOf, SearchedOf, numberPrecedes}
 use Rattle.queries.proofs.Asking.{asked-reaches, asked-told}
 use Rattle.queries.proofs.MadeBefore.{tally-few}
 use Rattle.queries.proofs.PastRow.{reached-counts}
@@ -40,7 +41,7 @@ module _ (passes : ℕ → Bool) where
 
 -- Asks there were, and those that halving still takes in some turns, are as many as it takes in all.
 abbrev AsMany : List ℕ → List ℕ → List ℕ → List ℕ → ℕ → ℕ → ℕ → ℕ → ℕ → ℕ → ℕ → Type 0
-AsMany ds ns ss start p d t asks turns low high = (bs : ℕ → Carried) (passes : ℕ → Bool) → Sound (view width p ds ns bs ss)
+AsMany ds ns ss start p d t asks turns low high = (bs : ℕ → Carried) (passes : ℕ → Bool) → CausallyOrdered (view width p ds ns bs ss)
     → ((k : ℕ) → 1 ≤ k → passes k ≡ leb k (reached width ds ns bs ss p start d))
     → length (halving passes mostAsks (min (rowFn start d) t) t) ≡ asks + length (halving passes turns low high)
 
@@ -52,7 +53,7 @@ pub record Halved (ds ns ss start : List ℕ) (p d t : ℕ) (row : List ℕ) (at
   pub reaches : (bs : ℕ → Carried) → reached width ds ns bs ss at row d ≡ reached width ds ns bs ss p start d
   pub sides : (low ≤ high) × (high ≤ t)
   pub precede : (bs : ℕ → Carried) → low ≤ reached width ds ns bs ss p start d
-  pub apart : (bs : ℕ → Carried) → Sound (view width p ds ns bs ss) → min t (reached width ds ns bs ss p start d) ≤ high
+  pub apart : (bs : ℕ → Carried) → CausallyOrdered (view width p ds ns bs ss) → min t (reached width ds ns bs ss p start d) ≤ high
   pub turns : ℕ
   pub all-turns : asks + turns ≡ mostAsks
   pub enough : high - low < power turns
@@ -104,12 +105,12 @@ module _ (ds ns ss start : List ℕ) (p d t : ℕ) where
         reached-on : (bs : ℕ → Carried) → reached width ds ns bs ss r after d ≡ reached width ds ns bs ss p start d
         reached-on bs = asked-reaches ds ns ss row at (record { desk = d; number = middle low high }) here lo hi after made r a bs ∙ w .reaches bs
 
-        told : (bs : ℕ → Carried) → Sound (view width p ds ns bs ss) → leb (middle low high) (rowFn after d) ≡ leb (middle low high) (reached width ds ns bs ss p start d)
+        told : (bs : ℕ → Carried) → CausallyOrdered (view width p ds ns bs ss) → leb (middle low high) (rowFn after d) ≡ leb (middle low high) (reached width ds ns bs ss p start d)
         told bs s = asked-told ds ns ss row at (record { desk = d; number = middle low high }) here lo hi after made r a bs (sound-below width p ds ns bs ss s at (w .less)) ∙ ap (leb (middle low high)) (w .reaches bs)
 
         -- What stays, where the numbers between x and y are left, at most half of those before.
         halved-on : (x y : ℕ) → (x ≤ y) × (y ≤ t) → y - x ≤ (high - low) / 2 → ((bs : ℕ → Carried) → x ≤ reached width ds ns bs ss p start d)
-            → ((bs : ℕ → Carried) → Sound (view width p ds ns bs ss) → min t (reached width ds ns bs ss p start d) ≤ y)
+            → ((bs : ℕ → Carried) → CausallyOrdered (view width p ds ns bs ss) → min t (reached width ds ns bs ss p start d) ≤ y)
             → ((passes : ℕ → Bool) → passes (middle low high) ≡ leb (middle low high) (rowFn after d) → length (halving passes (suc (turn .next)) low high) ≡ suc (length (halving passes (turn .next) x y)))
             → Halved ds ns ss start p d t after r x y more
         halved-on x y o half precede apart one-turn =
@@ -143,7 +144,7 @@ module _ (ds ns ss start : List ℕ) (p d t : ℕ) where
 
     -- No number is left.
     module _ (h : high ≤ low) (f : Named width p ds) (lo : 1 ≤ d) (hi : d ≤ width) (er : (j : ℕ) → j < width → getD start j 0 ≡ getD ss (p * width + j) 0) where
-      counts : (count : ℕ) (bs : ℕ → Carried) → p < count → Sound (view width count ds ns bs ss) → (k : ℕ) → 1 ≤ k
+      counts : (count : ℕ) (bs : ℕ → Carried) → p < count → CausallyOrdered (view width count ds ns bs ss) → (k : ℕ) → 1 ≤ k
           → numberPrecedes width count ds ns bs ss p d k ≡ leb k (reached width ds ns bs ss p start d)
       counts count bs l s k pos = reached-counts width ds ns bs ss count p l f s start er (record { desk = d; number = k }) lo hi pos
 

@@ -5,13 +5,14 @@ ghost use lib.ListN.{length};
 ghost use Rattle.causality.specs.Calls.{firstApart};
 ghost use Rattle.causality.specs.Marks.{places, tally};
 ghost use Rattle.causality.specs.Meaning.{idOf, lowestGiven};
-ghost use Rattle.rows.specs.View.{width, Named, namesDown};
+ghost use Rattle.rows.specs.View.{width, namesDown};
+ghost use Rattle.rows.specs.inner.Slots.{Named};
 ghost use Rattle.queries.specs.Halving.{mostAsks};
-ghost use Rattle.queries.specs.Lent.{HasLent, OfEach};
-ghost use Rattle.queries.specs.Steps.{AskedOf, MadeBefore, SearchedOf};
-use causality::Lowest;
-use causality::MarkId;
+ghost use Rattle.queries.specs.inner.Lent.{HasLent, OfEach};
+ghost use Rattle.queries.specs.inner.Steps.{AskedOf, MadeBefore, SearchedOf};
+use causality::FirstApartAnswer;
 use causality::Place;
+use frame::MarkId;
 use frame::Number;
 use frame::Refusal;
 use frame::conditions::is_desk;
@@ -143,21 +144,21 @@ pub fn first_apart<'a>(
     before: &'a [u16; PLACES],
     a: MarkId,
     desk: u8,
-) -> Lowest
+) -> FirstApartAnswer
     requires { ⌜ HasLent (now desks) (now numbers) (now tally) (now last) (now before) ⌝ }
     ensures { λ r. ⌜ OfEach desks numbers stamps tally last before (λ st. lowestGiven r ≡ firstApart width st (idOf a) desk) ⌝ }
 {
     if !is_desk(desk) {
-        return Lowest::Refused(Refusal::DeskRange);
+        return FirstApartAnswer::Refused(Refusal::DeskRange);
     }
     let p = executed::find(tally, last, before, a);
     if PLACES <= p {
-        return Lowest::Refused(Refusal::NotExecuted);
+        return FirstApartAnswer::Refused(Refusal::NotExecuted);
     }
     let made = made_before(desks, numbers, tally, last, desk, Place(p));
     let found = search(desks, numbers, stamps, Place(p), desk, made);
     if found.precede < made {
-        return Lowest::Number(Number(found.precede + 1));
+        return FirstApartAnswer::Number(Number(found.precede + 1));
     }
-    Lowest::None
+    FirstApartAnswer::None
 }

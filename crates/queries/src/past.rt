@@ -1,8 +1,9 @@
 // The past of a mark as a row: for each desk how many of its marks precede the mark.
 ghost use Prim.Native.Nat.{_<_};
 ghost use Rattle.causality.specs.Marks.{places};
-ghost use Rattle.rows.specs.View.{width, Named};
-ghost use Rattle.queries.specs.Steps.{PastOf};
+ghost use Rattle.rows.specs.View.{width};
+ghost use Rattle.rows.specs.inner.Slots.{Named};
+ghost use Rattle.queries.specs.inner.Steps.{PastOf};
 use causality::Place;
 use rows::PLACES;
 use rows::WIDTH;

@@ -5,12 +5,13 @@ ghost use lib.ListN.{length};
 ghost use Rattle.causality.specs.Calls.{relate};
 ghost use Rattle.causality.specs.Marks.{places};
 ghost use Rattle.causality.specs.Meaning.{idOf, relating};
-ghost use Rattle.rows.specs.View.{width, Named};
-ghost use Rattle.queries.specs.Lent.{HasLent, OfEach};
-ghost use Rattle.queries.specs.Steps.{Leads, PrecedesAt};
-use causality::MarkId;
+ghost use Rattle.rows.specs.View.{width};
+ghost use Rattle.rows.specs.inner.Slots.{Named};
+ghost use Rattle.queries.specs.inner.Lent.{HasLent, OfEach};
+ghost use Rattle.queries.specs.inner.Steps.{Leads, PrecedesAt};
 use causality::Place;
-use causality::Related;
+use causality::RelateAnswer;
+use frame::MarkId;
 use frame::Number;
 use frame::Refusal;
 use rows::PLACES;
@@ -74,27 +75,27 @@ pub fn relate<'a>(
     before: &'a [u16; PLACES],
     a: MarkId,
     b: MarkId,
-) -> Related
+) -> RelateAnswer
     requires { ⌜ HasLent (now desks) (now numbers) (now tally) (now last) (now before) ⌝ }
     ensures { λ r. ⌜ OfEach desks numbers stamps tally last before (λ st. relating r ≡ relate st (idOf a) (idOf b)) ⌝ }
 {
     let p = executed::find(tally, last, before, a);
     let q = executed::find(tally, last, before, b);
     if PLACES <= p {
-        return Related::Refused(Refusal::NotExecuted);
+        return RelateAnswer::Refused(Refusal::NotExecuted);
     }
     if PLACES <= q {
-        return Related::Refused(Refusal::NotExecuted);
+        return RelateAnswer::Refused(Refusal::NotExecuted);
     }
     if p == q {
-        return Related::Same;
+        return RelateAnswer::Same;
     }
     if p < q {
         if precedes(desks, numbers, stamps, Place(p), Place(q)) {
-            return Related::Before;
+            return RelateAnswer::Before;
         }
     } else if precedes(desks, numbers, stamps, Place(q), Place(p)) {
-        return Related::After;
+        return RelateAnswer::After;
     }
-    Related::Concurrent
+    RelateAnswer::Concurrent
 }

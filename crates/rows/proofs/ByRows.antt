@@ -9,16 +9,15 @@ use native.Mathlib.Numerals.{sub-one}
 use native.Mathlib.Omega.{arith}
 use Rattle.frame.specs.declared.MarkBox.{MarkBox}
 use Rattle.frame.specs.declared.Past.{Past}
-use Rattle.frame.specs.Mark.{MarkId}
+use Rattle.frame.specs.Names.{MarkId}
 use Rattle.causality.specs.Marks.{All, any, has}
 use Rattle.causality.specs.State.{Mark, falseEntries, ready}
 use Rattle.causality.proofs.Logic.{and-cong}
-use Rattle.causality.proofs.Numbers.{Strict}
-use Rattle.causality.proofs.Reach.{Sound}
+use Rattle.causality.specs.inner.Order.{Strict, CausallyOrdered}
 use Rattle.causality.proofs.RowLaws.{entries-of-row, false-by-rows, row-of-entries, shown, any-entries}
 use Rattle.causality.specs.Rows.{entriesFrom, entriesOfRow}
 use Rattle.causality.specs.inner.Passes.{rowOf, under}
-use Rattle.rows.specs.View.{rowFn}
+use Rattle.rows.specs.inner.Slots.{rowFn}
 use Rattle.causality.specs.inner.Upto.{someReached}
 use Rattle.causality.proofs.Upto.{any-to-cong}
 
@@ -61,7 +60,7 @@ under-cong n (m ∷ older) a s s′ r r′ f g d p q =
 -- FALSE STAMPS
 
 -- The false-stamp test by the row of the stamp and a row that tells of the entries and of the previous mark what is under the stamp.
-pub false-by-row : (n : ℕ) (l : List Mark) → Sound l → All (λ m. (1 ≤ m .id .desk) × (m .id .desk ≤ n)) l → (row below : List ℕ)
+pub false-by-row : (n : ℕ) (l : List Mark) → CausallyOrdered l → All (λ m. (1 ≤ m .id .desk) × (m .id .desk ≤ n)) l → (row below : List ℕ)
     → ((d : ℕ) → 1 ≤ d → d ≤ n → 1 ≤ rowFn row d → leb (rowFn row d) (rowFn below d) ≡ leb (rowFn row d) (under l (rowFn row) (λ d. 0) d)) → (i : MarkId) (b : MarkBox) (said : Past) → 1 ≤ i .desk → i .desk ≤ n
     → (1 < i .number → ltb (max (rowFn row (i .desk)) (rowFn below (i .desk))) (i .number - 1) ≡ ltb (max (rowFn row (i .desk)) (under l (rowFn row) (λ d. 0) (i .desk))) (i .number - 1))
     → T (ready l (record { id = i; extent = b; stamp = entriesOfRow n (rowFn row); past = said }))

@@ -9,10 +9,11 @@ use native.Mathlib.Omega.{arith}
 use borrow.Author.Tests.{lt-ltb, le-ltb, eq-eqb, ne-eqb}
 use lib.Dec.{eqb}
 use lib.ListN.{getD}
-use Rattle.frame.specs.Mark.{MarkId}
+use Rattle.frame.specs.Names.{MarkId}
 use Rattle.causality.specs.Marks.{same, find}
 use Rattle.causality.specs.State.{Mark, markId}
-use Rattle.rows.specs.View.{Carried, view, markAt, placeAt}
+use Rattle.rows.specs.View.{Carried, view, markAt}
+use Rattle.rows.specs.inner.Slots.{placeAt}
 
 -- The mark of the name, if any, is among the first p.
 pub record Below (n count desk number : ℕ) (ds ns : List ℕ) (p : ℕ) : Type 0 where

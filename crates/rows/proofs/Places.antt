@@ -8,14 +8,16 @@ use mathlib.Core.Logic.{inl, inr}
 use mathlib.Core.Option.{none, some}
 use mathlib.Core.Path.{_∙_, _≡_, refl, subst, sym}
 use native.Mathlib.Omega.{arith}
-use Rattle.frame.specs.Mark.{MarkId}
+use Rattle.frame.specs.Names.{MarkId}
 use Rattle.causality.specs.Marks.{All, find, has, same}
 use Rattle.causality.specs.State.{Mark, ids, markId, precedes}
 use Rattle.causality.proofs.Lists.{Picked, any-find, find-all, find-has}
 use Rattle.causality.proofs.Logic.{nT→eq, or-cases, or-inr, same-refl, same→eq, split}
 use Rattle.causality.proofs.Past.{fresh-of}
-use Rattle.causality.proofs.Reach.{Sound, not-new, precedes-at, precedes-listed, precedes-old, sound-counted}
-use Rattle.rows.specs.View.{Carried, Named, markAt, nameAt, namesDown, placeAt, view}
+use Rattle.causality.proofs.Reach.{not-new, precedes-at, precedes-listed, precedes-old, sound-counted}
+use Rattle.causality.specs.inner.Order.{CausallyOrdered}
+use Rattle.rows.specs.View.{Carried, markAt, nameAt, namesDown, view}
+use Rattle.rows.specs.inner.Slots.{Named, placeAt}
 use Rattle.rows.proofs.Arrays.{sound-below}
 use Rattle.rows.proofs.RowSteps.{named-at}
 use Rattle.rows.proofs.Down.{down-has, down-ids, down-more}
@@ -53,13 +55,13 @@ module _ (n : ℕ) (ds ns : List ℕ) (bs : ℕ → Carried) (ss : List ℕ) whe
   has-at count p h = down-has (markAt n ds ns bs ss) count p h
 
   -- A mark is not among those before its place.
-  pub not-before : (count p q : ℕ) → Sound (view n count ds ns bs ss) → p < count → q ≤ p → T (has ((markAt n ds ns bs ss p) .id) (ids (view n q ds ns bs ss))) → ⊥
+  pub not-before : (count p q : ℕ) → CausallyOrdered (view n count ds ns bs ss) → p < count → q ≤ p → T (has ((markAt n ds ns bs ss p) .id) (ids (view n q ds ns bs ss))) → ⊥
   unfolding view
   not-before count p q s h k t = fresh-of ((markAt n ds ns bs ss p) .id) (ids (view n p ds ns bs ss))
       (sound-counted (view n (suc p) ds ns bs ss) (sound-below n count ds ns bs ss s (suc p) h)) (has-more q p k ((markAt n ds ns bs ss p) .id) t)
 
   -- What precedes a mark is settled at its place.
-  pub precedes-there : (count p : ℕ) → Sound (view n count ds ns bs ss) → p < count → (a : MarkId)
+  pub precedes-there : (count p : ℕ) → CausallyOrdered (view n count ds ns bs ss) → p < count → (a : MarkId)
       → precedes (view n count ds ns bs ss) a ((markAt n ds ns bs ss p) .id) ≡ precedes (view n (suc p) ds ns bs ss) a ((markAt n ds ns bs ss p) .id)
   unfolding view
   precedes-there zero p s h a = let z : ⊥ = omega arith in absurd z
@@ -72,7 +74,7 @@ module _ (n : ℕ) (ds ns : List ℕ) (bs : ℕ → Carried) (ss : List ℕ) whe
   ]
 
   -- A mark precedes none at an earlier place or its own.
-  pub precedes-no-earlier : (count p q : ℕ) → Sound (view n count ds ns bs ss) → p < count → q ≤ p
+  pub precedes-no-earlier : (count p q : ℕ) → CausallyOrdered (view n count ds ns bs ss) → p < count → q ≤ p
       → precedes (view n count ds ns bs ss) ((markAt n ds ns bs ss p) .id) ((markAt n ds ns bs ss q) .id) ≡ false
   unfolding view
   precedes-no-earlier count p q s h k = nT→eq b (not-T b (λ t.

@@ -16,7 +16,8 @@ use Rattle.causality.specs.State.{Mark}
 use Rattle.causality.specs.inner.Passes.{rowOf, under}
 use Rattle.causality.proofs.RowLaws.{row-of-entries}
 use Rattle.causality.specs.Rows.{entriesOfRow}
-use Rattle.rows.specs.View.{Carried, Named, markAt, rowAt, rowFn, view}
+use Rattle.rows.specs.View.{Carried, markAt, rowAt, view}
+use Rattle.rows.specs.inner.Slots.{Named, rowFn}
 use Rattle.rows.proofs.ByRows.{row-at, under-cong}
 use Rattle.causality.specs.inner.Upto.{someReached}
 use Rattle.causality.proofs.Upto.{any-more, any-yes}

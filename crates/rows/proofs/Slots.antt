@@ -10,8 +10,9 @@ use native.Mathlib.Numerals.{add-one}
 use native.Mathlib.Omega.{arith}
 use Rattle.causality.specs.Rows.{entriesOfRow}
 use Rattle.rows.specs.declared.Held.{Held}
-use Rattle.rows.specs.Steps.{HasSlot, Stored}
-use Rattle.rows.specs.View.{Carried, SameOutside, Slots, ZeroFrom, carriedAt, heldMark, markAt, pastFrom, rowAt, rowFn, view, width}
+use Rattle.rows.specs.inner.Steps.{HasSlot, Stored}
+use Rattle.rows.specs.View.{Carried, ZeroFrom, carriedAt, markAt, pastFrom, rowAt, view, width}
+use Rattle.rows.specs.inner.Slots.{SameOutside, Slots, heldMark, rowFn}
 use Rattle.rows.proofs.Arrays.{mark-same}
 use Rattle.rows.proofs.ByRows.{entries-cong}
 use Rattle.rows.proofs.Stores.{boxes-below, outside-none, outside-set, zero-after}

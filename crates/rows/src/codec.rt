@@ -5,7 +5,7 @@ ghost use lib.ListN.{getD};
 ghost use Rattle.frame.specs.Frame.{entriesOf};
 ghost use Rattle.causality.specs.inner.Passes.{rowOf};
 ghost use Rattle.rows.specs.View.{width};
-ghost use Rattle.rows.specs.Steps.{EntriesIn};
+ghost use Rattle.rows.specs.inner.Steps.{EntriesIn};
 use crate::WIDTH;
 
 // The row of entries that are given as bytes.

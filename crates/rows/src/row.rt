@@ -2,7 +2,8 @@
 ghost use mathlib.Core.Path.{_≡_};
 ghost use Prim.Native.Nat.{ℕ, _+_, _*_, _≤_, _<_};
 ghost use lib.ListN.{length, getD};
-ghost use Rattle.rows.specs.View.{width, rowFn, sameCounts, SameOutside};
+ghost use Rattle.rows.specs.View.{width};
+ghost use Rattle.rows.specs.inner.Slots.{rowFn, sameCounts, SameOutside};
 use crate::WIDTH;
 
 // Row p of stamps that are laid out row behind row.

@@ -9,7 +9,7 @@ use mathlib.Core.Path.{_≡_, ap, refl, subst, sym}
 use native.Mathlib.Nat.{mul-le-mul-right, suc-mul}
 use native.Mathlib.Omega.{arith}
 use Rattle.causality.proofs.Logic.{split}
-use Rattle.tables.specs.Steps.{Added, stepped}
+use Rattle.tables.specs.inner.Steps.{Added, stepped}
 
 module _ (n : ℕ) where
   lower-row : (i j k d : ℕ) → j < n → i < k → i * n + j ≡ k * n + d → ⊥

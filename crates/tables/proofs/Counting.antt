@@ -14,15 +14,15 @@ use Rattle.causality.specs.Marks.{places, tally}
 use Rattle.causality.specs.State.{Mark, ids}
 use Rattle.causality.specs.Tables.{pairsApart, pairsBefore, tableSize}
 use Rattle.causality.proofs.Lists.{tally-length}
-use Rattle.causality.proofs.Reach.{Sound}
+use Rattle.causality.specs.inner.Order.{CausallyOrdered}
 use Rattle.causality.proofs.TableRows.{cell-in}
 use Rattle.causality.proofs.Tables.{apart-grows, apart-most, before-grows, before-most, past-few}
-use Rattle.queries.specs.Lent.{OfMarks}
+use Rattle.queries.specs.inner.Lent.{OfMarks}
 use Rattle.rows.specs.View.{Carried, markAt, nameAt, namesDown, view}
 use Rattle.rows.proofs.Arrays.{view-length}
 use Rattle.rows.proofs.Places.{ids-names}
 use Rattle.rows.proofs.Slots.{zeros}
-use Rattle.tables.specs.Steps.{Added, Holds, RoomFor, stepped}
+use Rattle.tables.specs.inner.Steps.{Added, Holds, RoomFor, stepped}
 use Rattle.tables.proofs.Cells.{column-added, row-added}
 
 -- The desk of index j is desk e, whose index is d, if j is d.
@@ -65,14 +65,14 @@ module _ (n count : ℕ) (ds ns ss : List ℕ) where
 
   module _ (apart before made : List ℕ) (q : ℕ) (w : CountedTo apart before made q) (d : ℕ) (hd : d < n) (e : getD ds q 0 ≡ suc d)
       (past : List ℕ) (hp : OfMarks n (suc q) ds ns ss (λ l. (j : ℕ) → j < n → getD past j 0 ≡ inPast l (suc j) (nameAt ds ns q))) where
-    module _ (bs : ℕ → Carried) (s : Sound (view n (suc q) ds ns bs ss)) where
+    module _ (bs : ℕ → Carried) (s : CausallyOrdered (view n (suc q) ds ns bs ss)) where
       abbrev l : List Mark
       l = view n q ds ns bs ss
 
       abbrev m : Mark
       m = markAt n ds ns bs ss q
 
-      below : Sound (view n q ds ns bs ss)
+      below : CausallyOrdered (view n q ds ns bs ss)
       unfolding view
       below = s .1
 
@@ -136,7 +136,7 @@ module _ (n count : ℕ) (ds ns ss : List ℕ) where
     -- It is passed.
     module _ (rest before₁ apart₁ apart₂ : List ℕ) (hr : (j : ℕ) → j < n → getD rest j 0 ≡ getD made j 0 - getD past j 0)
         (ab : Added n (stepped d n) past before before₁) (ac : Added n (stepped d n) rest apart apart₁) (ar : Added n (stepped (d * n) 1) rest apart₁ apart₂) where
-      module _ (bs : ℕ → Carried) (s : Sound (view n (suc q) ds ns bs ss)) where
+      module _ (bs : ℕ → Carried) (s : CausallyOrdered (view n (suc q) ds ns bs ss)) where
         rest-is : (j : ℕ) → j < n → getD rest j 0 ≡ tally (suc j) (ids (view n q ds ns bs ss)) - inPast (view n (suc q) ds ns bs ss) (suc j) (nameAt ds ns q)
         rest-is j h = hr j h ∙ (let a = made-is bs s j h in let b = hp bs s j h in omega arith)
 

@@ -11,7 +11,7 @@ use Rattle.frame.specs.Answer.{gives, refused}
 use Rattle.frame.specs.Frame.{overIf}
 use Rattle.causality.specs.Tables.{pairTables, tableSize, tables}
 use Rattle.causality.proofs.TableRows.{rows-are}
-use Rattle.tables.specs.Steps.{Holds}
+use Rattle.tables.specs.inner.Steps.{Holds}
 
 module _ (n : ℕ) where
   pub too-short : (lent : ℕ) → lent < 2 * tableSize n → pairTables n lent ≡ refused 13

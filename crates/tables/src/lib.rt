@@ -4,10 +4,10 @@ ghost use Prim.Native.Nat.{_+_, _≤_, _<_};
 ghost use lib.ListN.{length};
 ghost use lib.Seq.{paste};
 ghost use Rattle.causality.specs.Tables.{tableSize};
-ghost use Rattle.queries.specs.Lent.{HasMarks};
+ghost use Rattle.queries.specs.inner.Lent.{HasMarks};
 ghost use Rattle.rows.specs.View.{width};
-ghost use Rattle.tables.specs.Steps.{AtMost, Less, RoomFor, Added, stepped, TablesOf, Filled};
-use causality::Counted;
+ghost use Rattle.tables.specs.inner.Steps.{AtMost, Less, RoomFor, Added, stepped, TablesOf, Filled};
+use causality::ApartAnswer;
 use causality::Place;
 use frame::Refusal;
 use queries::past::past;
@@ -107,15 +107,15 @@ pub fn pair_tables<'a>(
     stamps: &'a [u16; PLACES * WIDTH],
     count: usize,
     out: &mut [u32],
-) -> Counted
+) -> ApartAnswer
     requires { ⌜ HasMarks count (now desks) (now numbers) (now stamps) ⌝ }
     ensures { λ r. ⌜ Filled count (now (desks .entry)) (now (numbers .entry)) (now (stamps .entry)) (now (out .entry)) (now (out .exit)) r ⌝ }
 {
     if out.len() < 2 * CELLS {
-        return Counted::Refused(Refusal::OutputShort);
+        return ApartAnswer::Refused(Refusal::OutputShort);
     }
     let tables = count_pairs(desks, numbers, stamps, count);
     put(out, 0, &tables.apart);
     put(out, CELLS, &tables.before);
-    Counted::Count(2 * CELLS)
+    ApartAnswer::Count(2 * CELLS)
 }

@@ -3,13 +3,14 @@ use Prim.Native.Nat.{_+_, _≤_, ℕ}
 use lib.ListN.{length}
 use mathlib.Core.Path.{_≡_}
 use native.Mathlib.Omega.{arith}
-use Rattle.frame.specs.Mark.{desks}
+use Rattle.frame.specs.Names.{desks}
 use Rattle.causality.specs.Marks.{All, places, waitingPlaces}
-use Rattle.causality.proofs.Fit.{Fit}
-use Rattle.causality.proofs.Kept.{Kept as KeptState, kept}
-use Rattle.causality.proofs.Reach.{Sound}
-use Rattle.rows.specs.View.{Named, carriedAt, width}
-use Rattle.executed.specs.Rows.{Lent}
+use Rattle.causality.specs.inner.Fit.{Fit}
+use Rattle.causality.proofs.Invariant.{Invariant as KeptState, kept}
+use Rattle.causality.specs.inner.Order.{CausallyOrdered}
+use Rattle.rows.specs.View.{carriedAt, width}
+use Rattle.rows.specs.inner.Slots.{Named}
+use Rattle.executed.specs.inner.Rows.{Lent}
 use Rattle.executed.proofs.Chain.{lent-of}
 use Rattle.executed.specs.Arrays.{Arrays}
 use Rattle.waiting.specs.declared.Waiting.{Waiting}
@@ -32,7 +33,7 @@ module _ (own : ℕ) (a : Arrays) (q : Waiting) where
   pub kept-state : KeptIn own a q → KeptState desks (omega arith) (stateIn own a q)
   kept-state k = kept desks (omega arith) (k .from)
 
-  pub kept-sound : KeptIn own a q → Sound ((stateIn own a q) .executed)
+  pub kept-sound : KeptIn own a q → CausallyOrdered ((stateIn own a q) .executed)
   kept-sound k = kept-state k .reach .sound
 
   pub kept-fit : KeptIn own a q → All (Fit desks) ((stateIn own a q) .executed)

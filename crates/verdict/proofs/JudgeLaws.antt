@@ -13,25 +13,27 @@ use native.Mathlib.Omega.{arith}
 use Rattle.frame.specs.declared.MarkBox.{MarkBox}
 use Rattle.frame.specs.declared.Past.{Past}
 use Rattle.frame.specs.declared.Past.the-variants.{Said, Unsaid}
-use Rattle.frame.specs.Mark.{MarkId}
+use Rattle.frame.specs.Names.{MarkId}
 use Rattle.causality.specs.Marks.{All, has, tally}
 use Rattle.causality.specs.State.{Mark, falseEntries, falseStamp, ids, ready, reckoned, reckoning, sameCount}
 use Rattle.causality.proofs.Lists.{all-map}
 use Rattle.causality.proofs.Logic.{and-fst, and-intro, and-snd, bool-ext, eq→T, nT→eq, split}
 use Rattle.causality.proofs.Past.{prefix-has, prefix-le}
-use Rattle.causality.proofs.Reach.{Follows, Sound, follows-of, reckoning-le, sound-counted}
+use Rattle.causality.proofs.Reach.{follows-of, reckoning-le, sound-counted}
+use Rattle.causality.specs.inner.Order.{Follows, CausallyOrdered}
 use Rattle.causality.proofs.RowCounts.{reckoning-row, tally-other}
 use Rattle.causality.proofs.RowLaws.{row-of-entries, under-out, under-final}
 use Rattle.causality.specs.Rows.{entriesOfRow}
 use Rattle.causality.specs.inner.Passes.{rowOf, under}
-use Rattle.rows.specs.View.{Carried, Named, namesDown, pastFrom, rowFn, view}
+use Rattle.rows.specs.View.{Carried, namesDown, pastFrom, view}
+use Rattle.rows.specs.inner.Slots.{Named, rowFn}
 use Rattle.rows.proofs.Slots.{zeros}
 use Rattle.rows.proofs.Arrays.{sound-below, view-length}
 use Rattle.rows.proofs.ByRows.{false-by-row, under-cong}
 use Rattle.rows.proofs.Places.{has-more, ids-names, named-has}
 use Rattle.rows.proofs.RowSteps.{named-desks, named-less, pass-rest}
-use Rattle.predecessors.specs.Steps.{greaterSum}
-use Rattle.verdict.specs.Judgement.{pastKept}
+use Rattle.predecessors.specs.inner.Steps.{greaterSum}
+use Rattle.verdict.specs.inner.Steps.{pastKept}
 use Rattle.causality.proofs.Upto.{sum-cong}
 use Rattle.causality.specs.inner.Upto.{someReached}
 
@@ -98,14 +100,14 @@ tally-none d (m ∷ l) a = tally-other d (m .id) (ids l) (a .0) ∙ tally-none d
 
 -- A trace from an empty row over the marks of arrays that stopped at a place: what its row tells of a mark with its stamp as a row.
 module _ (n count to : ℕ) (ds ns : List ℕ) (bs : ℕ → Carried) (ss : List ℕ) (f : Named n count ds) (le : to ≤ count) (row below : List ℕ)
-    (g : (j : ℕ) → j < n → getD below j 0 ≡ under (take (count - to) (view n count ds ns bs ss)) (rowFn row) (rowFn (replicate n 0)) (suc j)) (s : Sound (view n count ds ns bs ss)) where
+    (g : (j : ℕ) → j < n → getD below j 0 ≡ under (take (count - to) (view n count ds ns bs ss)) (rowFn row) (rowFn (replicate n 0)) (suc j)) (s : CausallyOrdered (view n count ds ns bs ss)) where
   abbrev l : List Mark
   l = view n count ds ns bs ss
 
   abbrev first : List Mark
   first = view n to ds ns bs ss
 
-  so : Sound first
+  so : CausallyOrdered first
   so = sound-below n count ds ns bs ss s to le
 
   named-all : All (λ m. (1 ≤ m .id .desk) × (m .id .desk ≤ n)) l

@@ -5,7 +5,7 @@ use mathlib.Core.Bool.{Bool, _&&_, _||_, false, true}
 use mathlib.Core.List.{List}
 use mathlib.Core.Path.{_∙_, _≡_, ap, refl, subst, sym}
 use native.Mathlib.Omega.{arith}
-use Rattle.frame.specs.Mark.{MarkId}
+use Rattle.frame.specs.Names.{MarkId}
 use Rattle.causality.specs.Calls.{sameBox, sameEntries, sameFields, unmade}
 use Rattle.causality.specs.Marks.{any, tally}
 use Rattle.causality.specs.State.{State, ids, sameCount}
@@ -15,7 +15,8 @@ use Rattle.causality.proofs.Logic.{and-fst, and-intro, and-snd, bool-ext, eq→
 use Rattle.causality.proofs.RowLaws.{row-of-entries, show, shown}
 use Rattle.causality.specs.Rows.{entriesOfRow}
 use Rattle.causality.specs.inner.Passes.{rowOf}
-use Rattle.rows.specs.View.{heldMark, pastFrom, rowFn, sameCounts, width}
+use Rattle.rows.specs.View.{pastFrom, width}
+use Rattle.rows.specs.inner.Slots.{heldMark, rowFn, sameCounts}
 use Rattle.rows.specs.declared.Held.{Held}
 use Rattle.rows.proofs.ByRows.{entries-cong}
 use Rattle.causality.proofs.Upto.{all-desk, all-of}

@@ -12,21 +12,23 @@ use Rattle.rows.specs.declared.Held.{Held}
 use Rattle.frame.specs.Answer.{gives, refused}
 use Rattle.frame.specs.declared.Past.{Past}
 use Rattle.frame.specs.declared.Past.the-variants.{Said, Unsaid}
-use Rattle.frame.specs.Mark.{MarkId, desks}
+use Rattle.frame.specs.Names.{MarkId, desks}
 use Rattle.causality.specs.Answers.{executes, waits}
 use Rattle.causality.specs.Calls.{admit, full, judge, sameFields, unmade}
 use Rattle.causality.specs.Kinds.{admitBy, judgeBy}
 use Rattle.causality.specs.Marks.{any, find, places, same, tally, waitingPlaces}
 use Rattle.causality.specs.State.{Mark, State, falseStamp, ids, markId, missing, ready, reckoned, withPast}
-use Rattle.causality.proofs.Fit.{Fit}
+use Rattle.causality.specs.inner.Fit.{Fit}
 use Rattle.causality.proofs.Missing.{ready-missing}
-use Rattle.causality.proofs.Reach.{Sound, sound-counted}
-use Rattle.rows.specs.View.{carriedAt, heldId, heldMark, heldWith, markAt, pastFrom, placeAt, width}
+use Rattle.causality.proofs.Reach.{sound-counted}
+use Rattle.causality.specs.inner.Order.{CausallyOrdered}
+use Rattle.rows.specs.View.{carriedAt, markAt, pastFrom, width}
+use Rattle.rows.specs.inner.Slots.{heldId, heldMark, heldWith, placeAt}
 use Rattle.executed.specs.Arrays.{Arrays}
 use Rattle.waiting.specs.declared.Waiting.{Waiting}
 use Rattle.verdict.specs.Kept.{KeptIn, stateIn}
-use Rattle.verdict.specs.Judgement.{Tallies, knownIf, pastKept, unmadeBy}
-use Rattle.predecessors.specs.Steps.{missingBy}
+use Rattle.verdict.specs.inner.Steps.{Tallies, knownIf, pastKept, unmadeBy}
+use Rattle.predecessors.specs.inner.Steps.{missingBy}
 use Rattle.rows.proofs.ByRows.{row-at}
 use Rattle.predecessors.proofs.MissingLaws.{missing-by-tally}
 use Rattle.verdict.proofs.Invariant.{kept-own}
@@ -58,7 +60,7 @@ module _ (l : List Mark) (m : Mark) (r : ℕ) (e : pastFrom r ≡ pastKept l m) 
       go false q w = (refl, rw (q, pastKept) at w)
 
 -- The readiness test, by the tally, yields x.
-module _ (l : List Mark) (h : Held) (t : List ℕ) (sound : Sound l) (f : Fit desks (heldMark h)) (ts : Tallies l t) (x : ℕ) (e : x ≡ missingBy width t (h .desk) (h .number .0) (h .row)) where
+module _ (l : List Mark) (h : Held) (t : List ℕ) (sound : CausallyOrdered l) (f : Fit desks (heldMark h)) (ts : Tallies l t) (x : ℕ) (e : x ≡ missingBy width t (h .desk) (h .number .0) (h .row)) where
   pub short-found : missing l (heldMark h) ≡ x
   short-found = missing-by-tally width l (sound-counted l sound) t (h .row) ts (heldId h) (h .extent) (pastFrom (h .past)) (f .range .low) (f .range .high) ∙ sym e
 
@@ -66,7 +68,7 @@ module _ (l : List Mark) (h : Held) (t : List ℕ) (sound : Sound l) (f : Fit de
   ready-found = ready-missing l (heldMark h) ∙ ap (λ (k : ℕ). eqb k 0) short-found
 
 -- 9, 10, 11, by counts and tally.
-module _ (st : State) (h : Held) (t : List ℕ) (count waiting : ℕ) (long : length (st .executed) ≡ count) (many : length (st .waiting) ≡ waiting) (sound : Sound (st .executed))
+module _ (st : State) (h : Held) (t : List ℕ) (count waiting : ℕ) (long : length (st .executed) ≡ count) (many : length (st .waiting) ≡ waiting) (sound : CausallyOrdered (st .executed))
     (f : Fit desks (heldMark h)) (ts : Tallies (st .executed) t) where
   full-test : full st ≡ eqb (count + waiting) places
   unfolding full

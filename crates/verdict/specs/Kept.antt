@@ -1,10 +1,12 @@
 -- The arrays and the waiting marks of a desk: its state, and that it came from New and the calls.
 use Prim.Native.Nat.{ℕ}
-use Rattle.frame.specs.Mark.{desks}
+use Rattle.frame.specs.Names.{desks}
 use Rattle.causality.specs.Calls.{FromCalls}
 use Rattle.causality.specs.State.{State}
-use Rattle.executed.specs.Arrays.{Arrays, Ordered, executedIn}
-use Rattle.waiting.specs.Queue.{Queued, waitingIn}
+use Rattle.executed.specs.Arrays.{Arrays, executedIn}
+use Rattle.executed.specs.inner.Takes.{Ordered}
+use Rattle.waiting.specs.Queue.{waitingIn}
+use Rattle.waiting.specs.inner.Steps.{Queued}
 use Rattle.waiting.specs.declared.Waiting.{Waiting}
 
 abbrev pub stateIn : ℕ → Arrays → Waiting → State

@@ -4,13 +4,14 @@ ghost use Prim.Native.Nat.{_+_, _≤_};
 ghost use Rattle.causality.specs.Marks.{places};
 ghost use Rattle.causality.specs.Calls.{judge as judging, sameBox, sameFields};
 ghost use Rattle.causality.specs.State.{sameCount};
-ghost use Rattle.causality.proofs.Fit.{Fit};
-ghost use Rattle.rows.specs.View.{width, Named, heldMark, pastFrom};
+ghost use Rattle.causality.specs.inner.Fit.{Fit};
+ghost use Rattle.rows.specs.View.{width, pastFrom};
+ghost use Rattle.rows.specs.inner.Slots.{Named, heldMark};
 ghost use Rattle.waiting.specs.Queue.{queueOf};
-ghost use Rattle.verdict.specs.Judgement.{meant, knownIf, unmadeBy, Asked, NewIn, ReadyIn, Reckons, AdmittedBy, Judges, lentState};
-use causality::MarkId;
+ghost use Rattle.verdict.specs.inner.Steps.{meant, knownIf, unmadeBy, Asked, NewIn, ReadyIn, Reckons, AdmittedBy, Judges, lentState};
 use causality::Place;
 use frame::MarkBox;
+use frame::MarkId;
 use frame::Refusal;
 use rows::BOX;
 use rows::Held;
@@ -18,13 +19,13 @@ use rows::PLACES;
 use rows::WIDTH;
 use waiting::WAITING;
 
-// What Receive finds of a mark: a refusal, or what it does. In Waits, how many marks are missing; in Runs, one more than how many marks precede it,
+// What Receive finds of a mark: a refusal, or what it does. In Waits, how many marks are missing; in Executes, one more than how many marks precede it,
 // which is what a desk keeps of its past.
 pub enum Verdict {
     Refused(Refusal),
     Known,
     Waits(u16),
-    Runs(u16),
+    Executes(u16),
 }
 
 fn same_box(a: MarkBox, b: MarkBox) -> bool
@@ -142,7 +143,7 @@ pub fn reckon<'a>(
     past
 }
 
-// 9, 10, 11, by the tally; so many marks wait.
+// 9, 10, 11, by the tally, where `waiting` marks wait.
 fn admit<'a>(
     desks: &'a [u8; PLACES],
     numbers: &'a [u16; PLACES],
@@ -168,7 +169,7 @@ fn admit<'a>(
         if past == 0 {
             return Verdict::Refused(Refusal::FalseStamp);
         }
-        return Verdict::Runs(past);
+        return Verdict::Executes(past);
     }
     if waiting == WAITING {
         return Verdict::Refused(Refusal::WaitingFull);

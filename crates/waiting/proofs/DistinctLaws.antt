@@ -7,7 +7,7 @@ use mathlib.Core.Option.{none}
 use mathlib.Core.Path.{_∙_, _≡_, ap, refl, sym}
 use Rattle.frame.specs.declared.MarkBox.{MarkBox}
 use Rattle.frame.specs.Answer.{Answer, gives, refused}
-use Rattle.frame.specs.Mark.{MarkId, isDesk}
+use Rattle.frame.specs.Names.{MarkId, isDesk}
 use Rattle.causality.specs.Answers.{Judgement, Numbered}
 use Rattle.causality.specs.Calls.{Created, FromCalls, act, begun, empty, execute, mark, markAnswer, markIn, marked, newMark, receive, received, release, rules, stateIf}
 use Rattle.causality.specs.Kinds.{executingBy, markOf, newOf, receiveOf}
@@ -16,7 +16,7 @@ use Rattle.causality.specs.State.{Mark, State, ids, markId, reckoned}
 use Rattle.causality.proofs.Lists.{find-has, has-append, map-append, isSome}
 use Rattle.causality.proofs.Cases.{JudgeCase, received-case, to-execute, to-know, to-refuse, to-wait}
 use Rattle.causality.proofs.Releases.{release-keeps}
-use Rattle.waiting.specs.Queue.{Distinct}
+use Rattle.waiting.specs.inner.Steps.{Distinct}
 use Rattle.waiting.proofs.ListLaws.{or-fst, or-snd}
 
 -- Fewer marks have a name that more do not have.

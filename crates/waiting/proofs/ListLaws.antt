@@ -7,12 +7,12 @@ use mathlib.Core.Logic.{⊎-elim}
 use mathlib.Core.Path.{_∙_, _≡_, ap, refl, subst, sym}
 use native.Mathlib.Nat.{eq-or-lt-of-le}
 use native.Mathlib.Omega.{arith}
-use Rattle.frame.specs.Mark.{MarkId}
+use Rattle.frame.specs.Names.{MarkId}
 use Rattle.causality.specs.Marks.{has, same, without}
 use Rattle.causality.specs.State.{Mark, ids, markId}
 use Rattle.causality.proofs.Logic.{T→eq, bool-ext, same-refl, same→eq, nT→eq}
 use Rattle.rows.specs.View.{Carried, markAt, view, downFrom}
-use Rattle.waiting.specs.Queue.{Distinct, takenOut}
+use Rattle.waiting.specs.inner.Steps.{Distinct, takenOut}
 use Rattle.rows.proofs.Down.{down-cong, down-has}
 
 pub or-fst : (a b : Bool) → (a || b) ≡ false → a ≡ false

@@ -10,15 +10,16 @@ use mathlib.Core.Option.{Option, none, some}
 use mathlib.Core.Path.{_∙_, _≡_, ap, refl, sym}
 use native.Mathlib.Numerals.{add-one}
 use native.Mathlib.Omega.{arith}
-use Rattle.frame.specs.Mark.{MarkId}
+use Rattle.frame.specs.Names.{MarkId}
 use Rattle.causality.specs.Marks.{lower, lowest}
 use Rattle.causality.specs.State.{Mark, markId, ready}
-use Rattle.rows.specs.View.{Carried, Named, markAt, placeAt, rowAt, rowFn, view, downFrom}
-use Rattle.predecessors.specs.Steps.{missingBy}
+use Rattle.rows.specs.View.{Carried, markAt, rowAt, view, downFrom}
+use Rattle.rows.specs.inner.Slots.{Named, placeAt, rowFn}
+use Rattle.predecessors.specs.inner.Steps.{missingBy}
 use Rattle.rows.proofs.ByRows.{entries-cong}
 use Rattle.predecessors.proofs.MissingLaws.{ready-by-tally}
 use Rattle.rows.proofs.RowSteps.{named-at}
-use Rattle.waiting.specs.Queue.{TallyOf, named}
+use Rattle.waiting.specs.inner.Steps.{TallyOf, named}
 
 lower-new : (h v : Mark) → h .id .desk ≤ v .id .desk → lower markId h (some v) ≡ h
 lower-new h v l = rw (le-ltb (v .id .desk) (h .id .desk) l, lower) refl

@@ -11,13 +11,15 @@ use native.Mathlib.Numerals.{add-one}
 use native.Mathlib.Omega.{arith}
 use Rattle.causality.specs.Marks.{waitingPlaces}
 use Rattle.causality.proofs.Logic.{split}
-use Rattle.rows.specs.View.{SameOutside, ZeroFrom, carriedAt, markAt, noBox, pastFrom, view, width}
-use Rattle.rows.specs.Steps.{HasSlot, Stored}
+use Rattle.rows.specs.View.{ZeroFrom, carriedAt, markAt, pastFrom, view, width}
+use Rattle.rows.specs.inner.Slots.{SameOutside, noBox}
+use Rattle.rows.specs.inner.Steps.{HasSlot, Stored}
 use Rattle.rows.specs.declared.Held.{Held}
 use Rattle.rows.proofs.Arrays.{mark-same}
 use Rattle.rows.proofs.Slots.{has-slot, row-fits, stored-below, zeros}
 use Rattle.rows.proofs.Stores.{outside-none, outside-set, box-same}
-use Rattle.waiting.specs.Queue.{Closed, Queued, Removed, queueOf, takenOut}
+use Rattle.waiting.specs.Queue.{queueOf}
+use Rattle.waiting.specs.inner.Steps.{Closed, Queued, Removed, takenOut}
 use Rattle.waiting.proofs.ListLaws.{view-taken, view-without}
 use Rattle.rows.proofs.Down.{down-cong}
 

@@ -6,8 +6,9 @@ use mathlib.Core.Option.{Option, none, some}
 use mathlib.Core.Path.{_∙_, _≡_, refl, sym}
 use Rattle.causality.specs.Marks.{All}
 use Rattle.causality.specs.State.{Mark}
-use Rattle.causality.proofs.Fit.{Fit}
-use Rattle.rows.specs.View.{Carried, Named, markAt, placeAt, view}
+use Rattle.causality.specs.inner.Fit.{Fit}
+use Rattle.rows.specs.View.{Carried, markAt, view}
+use Rattle.rows.specs.inner.Slots.{Named, placeAt}
 use Rattle.rows.proofs.Down.{down-at}
 
 module _ (n count : ℕ) (ds ns : List ℕ) (bs : ℕ → Carried) (ss : List ℕ) where

@@ -1,36 +1,19 @@
--- The waiting marks as arrays: the marks that they are, unused slots, and what a call does to them.
-use mathlib.Core.Path.{_≡_}
-use mathlib.Core.Bool.{false}
-use mathlib.Core.List.{List, [], _∷_}
-use mathlib.Core.Logic.{_⊎_}
-use Prim.Native.Nat.{ℕ, zero, suc, _+_, _-_, _≤_, _<_}
+-- The waiting marks as arrays, lent, and which marks they are.
+use mathlib.Core.List.{List}
+use Prim.Native.Nat.{ℕ}
 use denote.Ref.{RefT}
-use denote.Triple.Both.{Both}
-use lib.ListN.{length, getD}
-use Rattle.frame.specs.Mark.{MarkId}
-use Rattle.causality.specs.Marks.{find, has, lowest, tally, waitingPlaces, without}
-use Rattle.causality.specs.State.{Mark, ids, markId, ready}
-use Rattle.causality.proofs.Past.{Counted}
-use Rattle.rows.specs.View.{Carried, Slots, carriedAt, heldMark, placeAt, view, width}
-use Rattle.rows.specs.declared.Held.{Held}
+use Rattle.causality.specs.State.{Mark}
+use Rattle.rows.specs.View.{carriedAt, view, width}
 use Rattle.waiting.specs.declared.Waiting.{Waiting}
+use Rattle.rows.specs.Lending.{Lending}
 
 -- The waiting marks, newest first.
 abbrev pub waitingIn : Waiting → List Mark
 waitingIn q = view width (q .count) (q .desks) (q .numbers) (carriedAt (q .boxes) (q .pasts)) (q .stamps)
 
--- A queue in order: no more marks than slots, and zeros in those unused.
-pub record Queued (q : Waiting) : Type 0 where
-  pub few : q .count ≤ waitingPlaces
-  pub slots : Slots waitingPlaces (q .count) (q .desks) (q .numbers) (q .boxes) (q .pasts) (q .stamps)
-
 -- The queue of a count and five arrays.
 abbrev pub queueOf : ℕ → List ℕ → List ℕ → List ℕ → List ℕ → List ℕ → Waiting
 queueOf count ds ns bs ps ss = record { count = count; desks = ds; numbers = ns; boxes = bs; pasts = ps; stamps = ss }
-
--- What a contract has of a lent parameter: as found and as left.
-abbrev pub Lending : Type 0 → Type 0
-Lending A = Both (RefT A) (RefT A)
 
 -- The queue of lent arrays as they are, as found and as left.
 abbrev pub here : RefT ℕ → RefT (List ℕ) → RefT (List ℕ) → RefT (List ℕ) → RefT (List ℕ) → RefT (List ℕ) → Waiting
@@ -41,54 +24,3 @@ found count ds ns bs ps ss = here (count .entry) (ds .entry) (ns .entry) (bs .en
 
 abbrev pub left : Lending ℕ → Lending (List ℕ) → Lending (List ℕ) → Lending (List ℕ) → Lending (List ℕ) → Lending (List ℕ) → Waiting
 left count ds ns bs ps ss = here (count .exit) (ds .exit) (ns .exit) (bs .exit) (ps .exit) (ss .exit)
-
--- The name d.n.
-abbrev pub named : ℕ → ℕ → MarkId
-named d n = record { desk = d; number = n }
-
--- The numbers at from to below to came from w further on; the others are as they were.
-pub record Closed (w : ℕ) (before after : List ℕ) (from to : ℕ) : Type 0 where
-  pub long : length after ≡ length before
-  pub moved : (q : ℕ) → from ≤ q → q < to → getD after q 0 ≡ getD before (q + w) 0
-  pub rest : (q : ℕ) → (q < from) ⊎ (to ≤ q) → getD after q 0 ≡ getD before q 0
-
--- A list without its element at an index.
-abbrev pub takenOut : ℕ → List Mark → List Mark
-takenOut j [] = []
-takenOut zero (x ∷ xs) = xs
-takenOut (suc j) (x ∷ xs) = x ∷ takenOut j xs
-
--- No two marks of the list have the same name.
-abbrev pub Distinct : List Mark → Type 0
-Distinct [] = Unit {0}
-Distinct (x ∷ xs) = (has (x .id) (ids xs) ≡ false) × Distinct xs
-
--- One mark more, behind the others.
-pub record Pushed (h : Held) (q r : Waiting) : Type 0 where
-  pub one : r .count ≡ q .count + 1
-  pub queued : Queued r
-  pub marks : waitingIn r ≡ heldMark h ∷ waitingIn q
-
--- The mark of slot i is gone, the others are in their order. It goes by its name where no other has that.
-pub record Removed (i : ℕ) (q r : Waiting) : Type 0 where
-  pub one : q .count ≡ r .count + 1
-  pub queued : Queued r
-  pub others : waitingIn r ≡ takenOut (r .count - i) (waitingIn q)
-  pub marks : Distinct (waitingIn q)
-      → waitingIn r ≡ without markId (named (getD (q .desks) i 0) (getD (q .numbers) i 0)) (waitingIn q)
-
--- The slot of the mark of a name, or the count.
-pub record FoundAt (d n count : ℕ) (ds ns : List ℕ) (r : ℕ) : Type 0 where
-  pub few : r ≤ count
-  pub mark : (bs : ℕ → Carried) (ss : List ℕ) → placeAt width count r ds ns bs ss ≡ find markId (named d n) (view width count ds ns bs ss)
-
--- The tally of executed marks for n desks, each numbered behind those of its desk before it.
-pub record TallyOf (n : ℕ) (l : List Mark) (t : List ℕ) : Type 0 where
-  pub counted : Counted (ids l)
-  pub tallied : (d : ℕ) → 1 ≤ d → d ≤ n → getD t (d - 1) 0 ≡ tally d (ids l)
-
--- The slot of the ready mark of lowest desk, or the count, whatever marks are executed that have this tally.
-pub record LowestAt (t : List ℕ) (count : ℕ) (ds ns ss : List ℕ) (r : ℕ) : Type 0 where
-  pub few : r ≤ count
-  pub mark : (l : List Mark) (bs : ℕ → Carried) → TallyOf width l t
-      → placeAt width count r ds ns bs ss ≡ lowest markId (ready l) (view width count ds ns bs ss)

@@ -3,7 +3,7 @@ use Prim.Native.Nat.{max, ℕ}
 use lib.Dec.{eqb, leb}
 use mathlib.Core.Bool.{false, true}
 use mathlib.Core.List.{List, [], _∷_}
-use Rattle.frame.specs.Mark.{MarkId}
+use Rattle.frame.specs.Names.{MarkId}
 use Rattle.causality.specs.State.{Mark}
 
 -- The row of entries: at each desk the greatest number that they name of it, or 0.

@@ -4,7 +4,7 @@ use borrow.Author.Needs.{needs}
 use native.Mathlib.Omega.{arith}
 use Rattle.rows.specs.View.{width}
 use Rattle.rows.proofs.RowSteps.{named-at, named-less}
-use Rattle.causality.specs.declared.Evidence.the-variants.{Concurrent}
+use Rattle.causality.specs.declared.EvidenceAnswer.the-variants.{Concurrent}
 use Rattle.evidence.proofs.counts.Statement.{statement}
 use Rattle.evidence.proofs.counts.Tie as tie
 

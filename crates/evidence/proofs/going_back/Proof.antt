@@ -4,7 +4,7 @@ use Prim.Native.Nat.{_<_}
 use native.Mathlib.Omega.{arith}
 use Rattle.causality.specs.Marks.{places}
 use Rattle.rows.specs.View.{width}
-use Rattle.evidence.specs.Steps.{slots}
+use Rattle.evidence.specs.inner.Steps.{slots}
 use Rattle.evidence.proofs.Walk.{WalkedTo, walk-ends, walk-starts, walk-turn}
 use Rattle.evidence.proofs.going_back.Statement.{statement}
 use Rattle.evidence.proofs.going_back.Tie as tie

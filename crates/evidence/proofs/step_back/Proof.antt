@@ -6,7 +6,7 @@ use borrow.Author.Needs.{needs}
 use native.Mathlib.Numerals.{add-one}
 use native.Mathlib.Omega.{arith}
 use Rattle.rows.specs.View.{width}
-use Rattle.evidence.specs.Steps.{PlaceBelow}
+use Rattle.evidence.specs.inner.Steps.{PlaceBelow}
 use Rattle.evidence.proofs.Chains.{reached, step}
 use Rattle.evidence.proofs.step_back.Statement.{statement}
 use Rattle.evidence.proofs.step_back.Tie as tie

@@ -7,12 +7,12 @@ use lib.ListN.{getD}
 use native.Mathlib.Omega.{arith}
 use borrow.Author.Needs.{needs}
 use borrow.Author.Tests.{not-false, not-true}
-use Rattle.frame.specs.Mark.{MarkId}
+use Rattle.frame.specs.Names.{MarkId}
 use Rattle.causality.specs.Meaning.{idOf}
 use Rattle.causality.specs.Marks.{places}
 use Rattle.causality.proofs.Fit.{desk-facts, desk-test}
 use Rattle.rows.specs.View.{width}
-use Rattle.executed.specs.Rows.{Chain, placeIn}
+use Rattle.executed.specs.inner.Rows.{Chain, placeIn}
 use Rattle.executed.proofs.Chain.{chain-next, chain-place, chain-start, none-of, place-of}
 use Rattle.executed.proofs.find.Statement.{statement}
 use Rattle.executed.proofs.find.Tie as tie

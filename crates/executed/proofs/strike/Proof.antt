@@ -4,7 +4,7 @@ use Prim.Native.Nat.{ℕ, _-_}
 use lib.ListN.{getD}
 use Rattle.rows.specs.View.{width}
 use Rattle.rows.proofs.RowSteps.{Passed, passed-all, passed-none, passed-set}
-use Rattle.executed.specs.Rows.{struck}
+use Rattle.executed.specs.inner.Rows.{struck}
 use borrow.Author.Needs.{needs}
 use Rattle.executed.proofs.strike.Statement.{statement}
 use Rattle.executed.proofs.strike.Tie as tie

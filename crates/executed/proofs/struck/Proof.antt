@@ -1,6 +1,6 @@
 -- `struck` meets its contract: its one test.
 use borrow.Author.Tests.{eq-eqb, ne-eqb}
-use Rattle.executed.specs.Rows.{struck}
+use Rattle.executed.specs.inner.Rows.{struck}
 use Rattle.executed.proofs.struck.Statement.{statement}
 use Rattle.executed.proofs.struck.Tie as tie
 

@@ -44,12 +44,12 @@ use denote.Triple.Table.{entered}
 use denote.Triple.Walked.{says, needs, Stays, stay-none, stay-slice, walkOf, goes-none, goes-slice, Walks, ends-at, walked, walk-meets}
 use denote.Exit.{yes}
 use denote.Signature.{plain}
-use Rattle.causality.proofs.MarkId as T
-use Rattle.causality.proofs.MarkId.Laws as T′
+use Rattle.frame.proofs.MarkId as T
+use Rattle.frame.proofs.MarkId.Laws as T′
 use Rattle.frame.proofs.Number as U
 use Rattle.causality.specs.Marks.{places}
-use Rattle.causality.specs.declared.MarkId.{MarkId}
-use Rattle.pairs.specs.Pairs.{pairAt, filled}
+use Rattle.frame.specs.declared.MarkId.{MarkId}
+use Rattle.pairs.specs.inner.Filled.{pairAt, filled}
 use Rattle.pairs.specs.declared.Listed.{Listed}
 use Rattle.pairs.proofs.Element.{elem, elem-typed}
 use Rattle.pairs.proofs.Filled.{length-filled}

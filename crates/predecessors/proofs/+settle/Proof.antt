@@ -3,7 +3,8 @@ use mathlib.Core.Logic.{inl, inr, ⊎-elim}
 use mathlib.Core.Path.{_∙_, _≡_, subst, sym}
 use lib.ListN.{getD, length, take}
 use Rattle.causality.specs.inner.Passes.{under}
-use Rattle.rows.specs.View.{Carried, rowFn, view, width}
+use Rattle.rows.specs.View.{Carried, view, width}
+use Rattle.rows.specs.inner.Slots.{rowFn}
 use Rattle.rows.proofs.RowSteps.{named-last, named-less, one-turn, pass-ended, pass-step}
 use Rattle.predecessors.proofs.SettleLaws.{counted-at, tally-less, tally-some}
 use borrow.Author.Needs.{needs}

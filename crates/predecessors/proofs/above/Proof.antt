@@ -4,8 +4,9 @@ use mathlib.Core.Path.{_≡_, _∙_, sym}
 use Prim.Native.Nat.{_≤_, _-_}
 use lib.Dec.{ltb}
 use Rattle.causality.proofs.Upto.{count-le, sum-none}
-use Rattle.rows.specs.View.{rowFn, width}
-use Rattle.predecessors.specs.Steps.{aboveIn}
+use Rattle.rows.specs.View.{width}
+use Rattle.rows.specs.inner.Slots.{rowFn}
+use Rattle.predecessors.specs.inner.Steps.{aboveIn}
 use Rattle.predecessors.proofs.MissingLaws.{above-kept, above-more}
 use borrow.Author.Needs.{needs}
 use native.Mathlib.Omega.{arith}

@@ -5,7 +5,7 @@ use Prim.Native.Nat.{_≤_, _-_}
 use borrow.Author.Tests.{not-false, not-true}
 use Rattle.causality.proofs.Upto.{all-none}
 use Rattle.rows.specs.View.{width}
-use Rattle.predecessors.specs.Steps.{allCounted}
+use Rattle.predecessors.specs.inner.Steps.{allCounted}
 use Rattle.predecessors.proofs.SettleLaws.{counted-more, counted-no}
 use borrow.Author.Needs.{needs}
 use native.Mathlib.Omega.{arith}

@@ -5,7 +5,8 @@ use mir.Syntax.{w16}
 use mir.Val.{Fits}
 use native.Mathlib.Omega.{arith}
 use borrow.Author.Needs.{needs}
-use Rattle.rows.specs.View.{width, rowFn}
+use Rattle.rows.specs.View.{width}
+use Rattle.rows.specs.inner.Slots.{rowFn}
 use Rattle.predecessors.proofs.MissingLaws.{missing-entry, missing-more, missing-none}
 use Rattle.predecessors.proofs.missing.Statement.{statement}
 use Rattle.predecessors.proofs.missing.Tie as tie

@@ -3,7 +3,7 @@ use mathlib.Core.Path.{_≡_, sym}
 use Prim.Native.Nat.{_≤_, _-_}
 use Rattle.causality.proofs.Upto.{sum-none}
 use Rattle.rows.specs.View.{width}
-use Rattle.predecessors.specs.Steps.{greaterSum}
+use Rattle.predecessors.specs.inner.Steps.{greaterSum}
 use Rattle.predecessors.proofs.SettleLaws.{total-more, total-part}
 use borrow.Author.Needs.{needs}
 use native.Mathlib.Omega.{arith}

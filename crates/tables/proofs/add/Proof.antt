@@ -8,7 +8,7 @@ use borrow.Author.Needs.{needs}
 use native.Mathlib.Omega.{arith}
 use Rattle.causality.specs.Tables.{tableSize}
 use Rattle.rows.specs.View.{width}
-use Rattle.tables.specs.Steps.{stepped}
+use Rattle.tables.specs.inner.Steps.{stepped}
 use Rattle.tables.proofs.Adding.{Adding, adding-more, adding-none, next-count}
 use Rattle.tables.proofs.add.Statement.{statement}
 use Rattle.tables.proofs.add.Tie as tie

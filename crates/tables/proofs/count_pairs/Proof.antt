@@ -7,8 +7,8 @@ use borrow.Author.Needs.{needs}
 use native.Mathlib.Omega.{arith}
 use Rattle.causality.specs.Evidence.{inPast}
 use Rattle.causality.specs.Marks.{places}
-use Rattle.causality.proofs.Reach.{Sound}
-use Rattle.queries.specs.Lent.{OfMarks}
+use Rattle.causality.specs.inner.Order.{CausallyOrdered}
+use Rattle.queries.specs.inner.Lent.{OfMarks}
 use Rattle.rows.specs.View.{nameAt, view, width}
 use Rattle.rows.proofs.Arrays.{sound-below}
 use Rattle.rows.proofs.RowSteps.{named-at, named-less}
@@ -33,7 +33,7 @@ in-range c =
 
 -- The marks up to it.
 sound : (c : tie.In-loop Inv-loop μ-loop) → let a = c .before .before .args in
-    Sound (view width (suc (c .before .loop .q)) (a .desks .now) (a .numbers .now) (c .before .before .pre .carried) (a .stamps .now))
+    CausallyOrdered (view width (suc (c .before .loop .q)) (a .desks .now) (a .numbers .now) (c .before .before .pre .carried) (a .stamps .now))
 sound c = let s = c .before .before in sound-below width (s .args .count) (s .args .desks .now) (s .args .numbers .now) (s .pre .carried) (s .args .stamps .now) (s .pre .sound) (suc (c .before .loop .q)) (c .loop-test .taken)
 
 -- Its past as a row.

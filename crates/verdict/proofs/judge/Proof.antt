@@ -6,7 +6,8 @@ use native.Mathlib.Omega.{arith}
 use borrow.Author.Needs.{needs}
 use Rattle.causality.specs.Marks.{find, has, places, waitingPlaces}
 use Rattle.causality.specs.State.{ids, markId}
-use Rattle.rows.specs.View.{carriedAt, heldId, namesDown, placeAt, width}
+use Rattle.rows.specs.View.{carriedAt, namesDown, width}
+use Rattle.rows.specs.inner.Slots.{heldId, placeAt}
 use Rattle.rows.proofs.Places.{found-none, ids-names}
 use Rattle.rows.proofs.Slots.{has-slot}
 use Rattle.executed.specs.Arrays.{Arrays, arrays}

@@ -1,6 +1,6 @@
 -- `known` meets its contract: by what `same_fields` found.
 use mathlib.Core.Path.{_∙_, ap, sym}
-use Rattle.verdict.specs.Judgement.{knownIf}
+use Rattle.verdict.specs.inner.Steps.{knownIf}
 use borrow.Author.Needs.{needs}
 use Rattle.verdict.proofs.known.Statement.{statement}
 use Rattle.verdict.proofs.known.Tie as tie

@@ -12,10 +12,11 @@ use lib.ListN.{length-replicate}
 use Rattle.frame.specs.declared.Past.the-variants.{Said}
 use Rattle.causality.specs.Marks.{has, tally}
 use Rattle.causality.specs.State.{Mark, falseEntries, ids, ready, reckoning, sameCount}
-use Rattle.causality.proofs.Reach.{Sound}
-use Rattle.rows.specs.View.{Carried, heldId, heldMark, pastFrom, view, width}
+use Rattle.causality.specs.inner.Order.{CausallyOrdered}
+use Rattle.rows.specs.View.{Carried, pastFrom, view, width}
+use Rattle.rows.specs.inner.Slots.{heldId, heldMark}
 use Rattle.rows.proofs.Places.{ids-names}
-use Rattle.predecessors.specs.Steps.{greaterSum}
+use Rattle.predecessors.specs.inner.Steps.{greaterSum}
 use Rattle.predecessors.proofs.OldestLaws.{oldest-before}
 use Rattle.verdict.proofs.JudgeLaws.{false-found, kept-false-count, kept-false-entries, kept-reckoned, older-none, reckoned-few, reckoned-found}
 use Rattle.verdict.proofs.reckon.Statement.{statement}
@@ -46,7 +47,7 @@ settle-requires c κs =
     )
 
 -- The false-stamp test.
-tested : (f : tie.After-false-stamp) (bs : ℕ → Carried) → Sound (marks (start f) bs) → T (ready (marks (start f) bs) (heldMark (start f .args .h)))
+tested : (f : tie.After-false-stamp) (bs : ℕ → Carried) → CausallyOrdered (marks (start f) bs) → T (ready (marks (start f) bs) (heldMark (start f .args .h)))
     → f .false-stamp .result ≡ falseEntries (marks (start f) bs) (heldMark (start f .args .h))
 tested f bs so t =
     let s = start f in
@@ -68,7 +69,7 @@ fresh f bs = let s = start f in let a = s .args in
     ap (has (heldId (a .h))) (ids-names width (a .desks .now) (a .numbers .now) bs (a .stamps .now) (a .count)) ∙ s .pre .3 .new .fresh
 
 -- The sum is the reckoning, and no more than the marks are.
-summed : (f : tie.After-false-stamp) (bs : ℕ → Carried) → Sound (marks (start f) bs) → T (ready (marks (start f) bs) (heldMark (start f .args .h))) → f .false-stamp .result ≡ false
+summed : (f : tie.After-false-stamp) (bs : ℕ → Carried) → CausallyOrdered (marks (start f) bs) → T (ready (marks (start f) bs) (heldMark (start f .args .h))) → f .false-stamp .result ≡ false
     → greaterSum width (start f .args .h .row) (below f) ≡ reckoning (heldMark (start f .args .h) ∷ marks (start f) bs) (heldId (start f .args .h))
 summed f bs so t e =
     let s = start f in
@@ -102,7 +103,7 @@ add-past : tie.Need-add-past
 add-past c = let f = c .before .before in let n = start f .pre .0 in let e = c .total .ensures in omega (arith, few f (c .before .if1 .left))
 
 -- The past that is kept is the reckoning.
-kept : (c : tie.After-total) (bs : ℕ → Carried) → Sound (marks (start (c .before .before)) bs) → T (ready (marks (start (c .before .before)) bs) (heldMark (start (c .before .before) .args .h)))
+kept : (c : tie.After-total) (bs : ℕ → Carried) → CausallyOrdered (marks (start (c .before .before)) bs) → T (ready (marks (start (c .before .before)) bs) (heldMark (start (c .before .before) .args .h)))
     → pastFrom (c .total .result + 1) ≡ Said (reckoning (heldMark (start (c .before .before) .args .h) ∷ marks (start (c .before .before)) bs) (heldId (start (c .before .before) .args .h)))
 kept c bs so t = ap pastFrom (add-one (c .total .result)) ∙ ap Said (c .total .ensures ∙ summed (c .before .before) bs so t (c .before .if1 .left))
 

@@ -2,9 +2,8 @@
 use mathlib.Core.Path.{subst}
 use borrow.Author.Needs.{needs}
 use Rattle.causality.specs.Meaning.{idOf}
-use Rattle.causality.specs.declared.MarkId.{MarkId}
+use Rattle.frame.specs.declared.MarkId.{MarkId}
 use Rattle.concurrent.specs.Found.{ApartFound}
-use Rattle.queries.specs.Lent.{lent}
 use Rattle.abi.proofs.lent.find_apart.Statement.{statement}
 use Rattle.abi.proofs.lent.find_apart.Tie as tie
 

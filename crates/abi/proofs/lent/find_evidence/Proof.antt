@@ -2,9 +2,9 @@
 use mathlib.Core.Path.{subst}
 use borrow.Author.Needs.{needs}
 use Rattle.causality.specs.Meaning.{idOf}
-use Rattle.causality.specs.declared.MarkId.{MarkId}
+use Rattle.frame.specs.declared.MarkId.{MarkId}
 use Rattle.evidence.specs.Found.{EvidenceFound}
-use Rattle.queries.specs.Lent.{lent}
+use Rattle.queries.specs.inner.Lent.{queriedState}
 use Rattle.abi.proofs.lent.find_evidence.Statement.{statement}
 use Rattle.abi.proofs.lent.find_evidence.Tie as tie
 
@@ -13,7 +13,7 @@ returns c count own bs ws l s =
     let second = c .before in
     let first = second .before in
     let a = first .before .args in
-    subst (λ (x : MarkId × MarkId). EvidenceFound (lent count (a .desks .now) (a .numbers .now) (a .stamps .now) own bs ws) (idOf (x .0)) (idOf (x .1)) (a .lent) (c .evidence-list .result))
+    subst (λ (x : MarkId × MarkId). EvidenceFound (queriedState count (a .desks .now) (a .numbers .now) (a .stamps .now) own bs ws) (idOf (x .0)) (idOf (x .1)) (a .lent) (c .evidence-list .result))
     (λ i. (first .named .ensures i, second .named2 .ensures i)) (c .evidence-list .ensures count own bs ws l s)
 
 pub find-evidence-spec : {M : Type 1} → statement M

@@ -40,16 +40,16 @@ use denote.Triple.Table.{entered, cited}
 use denote.Triple.Walked.{says, needs, Stay, Stays, stay-dropped, gave-slice, walkOf, Goes, Silent, goes-dropped, goes-gave-slice, Walks, ends-at, walked, walk-meets}
 use denote.Exit.{yes}
 use denote.Signature.{Slot, plain, shrRef}
-use Rattle.causality.proofs.MarkId as T
+use Rattle.frame.proofs.MarkId as T
 use Rattle.causality.specs.Marks.{places}
-use Rattle.causality.specs.declared.MarkId.{MarkId}
+use Rattle.frame.specs.declared.MarkId.{MarkId}
 use Rattle.pairs.proofs.Listed as L
 use Rattle.pairs.proofs.Listed.Laws as L′
 use Rattle.pairs.proofs.fill as fill
 use Rattle.pairs.proofs.fill.Symbol as fill-def
 use Rattle.pairs.proofs.fill.Symbol.{name as #pairs·fill}
 use Rattle.pairs.proofs.fill.Met as fill-thm
-use Rattle.pairs.specs.Pairs.{filled}
+use Rattle.pairs.specs.inner.Filled.{filled}
 use Rattle.rows.specs.View.{width}
 use Rattle.pairs.specs.declared.Listed.{Listed}
 use Rattle.concurrent.proofs.ApartList as F
@@ -58,10 +58,10 @@ use Rattle.concurrent.specs.declared.ApartList.{ApartList}
 use Rattle.in_place.specs.Lent.{SomeDesk}
 use Rattle.desk.specs.Lent.{apartLent}
 use Rattle.desk.proofs.Invariant.{kept-lent}
-use Rattle.numbers.proofs.ApartAnswer as R
-use Rattle.numbers.proofs.ApartAnswer.Laws as R′
+use Rattle.numbers.proofs.ApartNumbers as R
+use Rattle.numbers.proofs.ApartNumbers.Laws as R′
 use Rattle.numbers.specs.Numbers.{countedNumbers}
-use Rattle.numbers.specs.declared.ApartAnswer.{ApartAnswer}
+use Rattle.numbers.specs.declared.ApartNumbers.{ApartNumbers}
 use Rattle.abi.specs.Exports.{ApartExport, markId}
 use Rattle.abi.proofs.LentApart.{Finds, deskBy, found-in, lent-export}
 use Rattle.abi.proofs.lent.find_apart as core
@@ -107,7 +107,7 @@ module _ {M : Type 1} (𝓤 : URA M) (H : Heap 𝓤) (A : Atoms 𝓤) (mem : Mem
   abbrev Give : Contract 𝓤
   Give = tripleOf 𝓤 H A answer-of.signature (answer-of.spec 𝓤 H A mem run)
 
-  give-of : (l : ApartList) (r : ApartAnswer) → ent 𝓤 (ensured 𝓤 H A answer-of.ended (answer-of.clauses 𝓤 H A mem run) tt (l, tt) tt r) (fact 𝓤 (countedNumbers (l .answer) ≡ (r .refusal, r .count)))
+  give-of : (l : ApartList) (r : ApartNumbers) → ent 𝓤 (ensured 𝓤 H A answer-of.ended (answer-of.clauses 𝓤 H A mem run) tt (l, tt) tt r) (fact 𝓤 (countedNumbers (l .answer) ≡ (r .refusal, r .count)))
   give-of l r = exE 𝓤 _ (λ ws. snd∗ 𝓤 (sem 𝓤 H A (lasts answer-of.ended tt (l, tt) ws)) (fact 𝓤 (countedNumbers (l .answer) ≡ (r .refusal, r .count))))
 
   core-of : (κ : Lft) (ds ns ss : RefT (List ℕ)) (c : ℕ) (ts ls bf : RefT (List ℕ)) (d n room : ℕ) (r : ApartList)
@@ -192,7 +192,7 @@ module _ {M : Type 1} (𝓤 : URA M) (H : Heap 𝓤) (A : Atoms 𝓤) (W : Given
       qed W (‵ ftrue ∷ []) ∵
       nothing ! $ owned ! F.the-row (Is F.the-row) (LL.makes F.the-type F′.the-plain 𝓤 H A) r (fv r ∷ []) is $ fjoin ! $ move ! (1 ∷ 0 ∷ []) $ join ! $ frame ! $ done !
 
-  exits : (k : ApartAnswer) (w : Val) (zs : List MarkId) → ApartExport (apartLent c ds ns ss ts ls bf) (markId d n) xs zs k → length zs ≡ length xs
+  exits : (k : ApartNumbers) (w : Val) (zs : List MarkId) → ApartExport (apartLent c ds ns ss ts ls bf) (markId d n) xs zs k → length zs ≡ length xs
       → ent 𝓤 (sep 𝓤 (sep 𝓤 (A .lft κ q) (sem 𝓤 H A ftrue)) (sep 𝓤 (sep 𝓤 (A .lft κ′ q′) (sem 𝓤 H A ftrue)) (sep 𝓤 (sem 𝓤 H A (finally T.the-row γ zs)) (sem 𝓤 H A (R.the-row .own k (w ∷ [])))))) (Post w)
   exits k w zs e len =
       qed W ((‵ (flft κ q) ⊛ ‵ ftrue) ∷ (‵ (flft κ′ q′) ⊛ ‵ ftrue) ∷ ‵ (finally T.the-row γ zs) ∷ ‵ (R.the-row .own k (w ∷ [])) ∷ []) ∵
@@ -234,7 +234,7 @@ module _ {M : Type 1} (𝓤 : URA M) (H : Heap 𝓤) (A : Atoms 𝓤) (W : Given
         nothing ! $ use1 W (raw (Give 𝓤 H A mem run .pre (to-give r))) (goes-give r (subst (Is F.the-row r) told is)) $
         -- [what the call needs; the token of out; the last list; true; the token of the others; _14; …]
         calls-at ! fm (Give 𝓤 H A mem run) known-give (to-give r) (and-then ! (load ! (from ! (stop !)) (look ! 11 refl)) (no-more !)) (λ v′.
-        use1 W (later (some (λ (g : ApartAnswer). (‵ ftrue ⊛ ‵ (R.the-row .own g (v′ ∷ []))) ⊛ raw (ensured 𝓤 H A answer-of.ended (answer-of.clauses 𝓤 H A mem run) tt (r, tt) tt g)))) (id⊢ 𝓤 _) $ await ! tt $ pick ! (λ g.
+        use1 W (later (some (λ (g : ApartNumbers). (‵ ftrue ⊛ ‵ (R.the-row .own g (v′ ∷ []))) ⊛ raw (ensured 𝓤 H A answer-of.ended (answer-of.clauses 𝓤 H A mem run) tt (r, tt) tt g)))) (id⊢ 𝓤 _) $ await ! tt $ pick ! (λ g.
         split ! $ move ! (1 ∷ []) $ use1 W (raw (fact 𝓤 (countedNumbers (r .answer) ≡ (g .refusal, g .count)))) (give-of 𝓤 H A mem run r g) $ heard ! (countedNumbers (r .answer) ≡ (g .refusal, g .count)) (λ e′. split ! $ drop ! $
         peeks ! R.the-row (Is R.the-row) (shows 𝓤 H A R.the-row) g (v′ ∷ []) (λ is-g.
         land ! (from ! (stop !)) (init ! 33 refl (LL.lawful R.the-type R′.the-laws 𝓤 H A W .typed g _ is-g .0)) $

@@ -1,7 +1,7 @@
 -- `kaungimewe_first_apart_lent` meets its contract: the query over lent arrays answers for every desk that lends them.
 use mathlib.Core.Path.{_∙_, refl}
 use borrow.Author.Needs.{needs}
-use Rattle.frame.specs.Mark.{desks}
+use Rattle.frame.specs.Names.{desks}
 use Rattle.causality.specs.Calls.{firstApart}
 use Rattle.causality.specs.Meaning.{idOf}
 use Rattle.desk.specs.Lent.{deskOf, queryLent}

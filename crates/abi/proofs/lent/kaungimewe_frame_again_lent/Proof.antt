@@ -1,9 +1,10 @@
 -- `kaungimewe_frame_again_lent` meets its contract: what is written over lent arrays is written for every desk that lends them.
 use mathlib.Core.Path.{refl, subst}
 use borrow.Author.Needs.{needs}
-use Rattle.causality.specs.declared.MarkId.{MarkId}
+use Rattle.frame.specs.declared.MarkId.{MarkId}
 use Rattle.verdict.specs.Kept.{stateIn}
-use Rattle.in_place.specs.Lent.{AgainIn, againLent}
+use Rattle.in_place.specs.Lent.{againLent}
+use Rattle.in_place.specs.inner.Steps.{AgainIn}
 use Rattle.abi.proofs.lent.kaungimewe_frame_again_lent.Statement.{statement}
 use Rattle.abi.proofs.lent.kaungimewe_frame_again_lent.Tie as tie
 

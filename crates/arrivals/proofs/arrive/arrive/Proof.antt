@@ -1,13 +1,13 @@
 -- `arrive` meets its contract: what the verdict says comes of it (Arriving).
 use mathlib.Core.Path.{_≡_, _∙_, ap, refl, sym}
 use borrow.Author.Needs.{needs}
-use Rattle.rows.specs.View.{heldMark}
+use Rattle.rows.specs.inner.Slots.{heldMark}
 use Rattle.executed.specs.Arrays.{Arrays, here}
 use Rattle.waiting.specs.Queue.{here as heldHere}
 use Rattle.waiting.specs.declared.Waiting.{Waiting}
 use Rattle.verdict.specs.Kept.{stateIn}
 use Rattle.causality.specs.Calls.{judge}
-use Rattle.verdict.specs.Judgement.{meant}
+use Rattle.verdict.specs.inner.Steps.{meant}
 use Rattle.arrivals.proofs.Arriving.{promise-runs, promise-stays, promise-waits, runs-midway, runs-takes, waits-room}
 use Rattle.arrivals.proofs.arrive.arrive.Statement.{statement}
 use Rattle.arrivals.proofs.arrive.arrive.Tie as tie

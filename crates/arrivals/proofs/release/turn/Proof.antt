@@ -3,11 +3,12 @@ use mathlib.Core.Path.{_≡_}
 use native.Mathlib.Omega.{arith}
 use borrow.Author.Needs.{needs}
 use Rattle.causality.specs.Marks.{waitingPlaces}
-use Rattle.rows.specs.View.{carriedAt, heldMark, pastFrom}
+use Rattle.rows.specs.View.{carriedAt, pastFrom}
+use Rattle.rows.specs.inner.Slots.{heldMark}
 use Rattle.rows.specs.declared.Held.{Held}
 use Rattle.rows.proofs.Slots.{has-slot}
 use Rattle.executed.specs.Arrays.{Arrays, executedIn, here}
-use Rattle.verdict.specs.Judgement.{pastKept}
+use Rattle.verdict.specs.inner.Steps.{pastKept}
 use Rattle.verdict.proofs.Judging.{kept-none, kept-some}
 use Rattle.arrivals.proofs.Turning.{mid-count, mid-named, turn-dropped-is, turn-executed-is, turn-fit, turn-is-ready, turn-ready, turn-takes}
 use Rattle.arrivals.proofs.release.turn.Statement.{statement}

@@ -38,17 +38,17 @@ use denote.Triple.Table.{entered, cited}
 use denote.Triple.Walked.{says, needs, Stays, stay-none, gave-slice, walkOf, goes-none, goes-gave-slice, Walks, ends-at, walked, walk-meets}
 use denote.Exit.{yes}
 use denote.Signature.{plain}
-use Rattle.causality.proofs.MarkId as T
-use Rattle.causality.proofs.MarkId.Laws as T′
+use Rattle.frame.proofs.MarkId as T
+use Rattle.frame.proofs.MarkId.Laws as T′
 use Rattle.causality.specs.Marks.{places}
-use Rattle.causality.specs.declared.MarkId.{MarkId}
+use Rattle.frame.specs.declared.MarkId.{MarkId}
 use Rattle.pairs.proofs.Listed as L
 use Rattle.pairs.proofs.Listed.Laws as L′
 use Rattle.pairs.proofs.fill as fill
 use Rattle.pairs.proofs.fill.Symbol as fill-def
 use Rattle.pairs.proofs.fill.Symbol.{name as #pairs·fill}
 use Rattle.pairs.proofs.fill.Met as fill-thm
-use Rattle.pairs.specs.Pairs.{filled}
+use Rattle.pairs.specs.inner.Filled.{filled}
 use Rattle.pairs.specs.declared.Listed.{Listed}
 use Rattle.desk.specs.Promises.{ApartPromise}
 use Rattle.causality.specs.Meaning.{idOf}

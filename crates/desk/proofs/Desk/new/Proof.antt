@@ -4,7 +4,7 @@ use mathlib.Core.Bool.{false, true}
 use mathlib.Core.Path.{_∙_, _≡_, ap, refl, subst, sym}
 use borrow.Author.Needs.{needs}
 use Rattle.frame.specs.Answer.{gives, refused}
-use Rattle.frame.specs.Mark.{desks, isDesk}
+use Rattle.frame.specs.Names.{desks, isDesk}
 use Rattle.causality.specs.Calls.{Created, FromCalls, begun, empty, new}
 use Rattle.causality.specs.Kinds.{newOf}
 use Rattle.desk.proofs.Desk.new.Statement.{statement}

@@ -2,7 +2,7 @@
 use Prim.Native.Nat.{_≤_, _-_}
 use borrow.Author.Needs.{needs}
 use Rattle.rows.specs.View.{width}
-use Rattle.desk_vectors.specs.AllKept.{AllKept}
+use Rattle.desk_vectors.specs.inner.AllKept.{AllKept}
 use Rattle.desk_vectors.proofs.Desks.{all-set}
 use Rattle.desk_vectors.proofs.sixteen.all_receive.Statement.{statement}
 use Rattle.desk_vectors.proofs.sixteen.all_receive.Tie as tie

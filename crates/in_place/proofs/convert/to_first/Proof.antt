@@ -3,7 +3,7 @@ use mathlib.Core.Path.{_≡_, _∙_, ap, sym}
 use borrow.Author.Needs.{needs}
 use Rattle.frame.specs.Answer.{gives}
 use Rattle.frame.specs.Frame.{readFields, reading}
-use Rattle.frame.specs.Mark.{desks}
+use Rattle.frame.specs.Names.{desks}
 use Rattle.in_place.proofs.Converting.{first-refused, first-same, first-written, said-none, said-some}
 use Rattle.in_place.proofs.convert.to_first.Statement.{statement}
 use Rattle.in_place.proofs.convert.to_first.Tie as tie

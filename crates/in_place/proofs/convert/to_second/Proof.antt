@@ -5,7 +5,7 @@ use Prim.Native.Nat.{ℕ}
 use borrow.Author.Needs.{needs}
 use Rattle.frame.specs.Answer.{gives}
 use Rattle.frame.specs.Frame.{readFields, reading}
-use Rattle.frame.specs.Mark.{desks}
+use Rattle.frame.specs.Names.{desks}
 use Rattle.executed.specs.Arrays.{Arrays}
 use Rattle.verdict.specs.Kept.{stateIn}
 use Rattle.in_place.specs.Lent.{againLent}

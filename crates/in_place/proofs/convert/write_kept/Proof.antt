@@ -8,7 +8,8 @@ use borrow.Author.Needs.{needs}
 use borrow.Author.Tests.{not-false, not-true}
 use Rattle.causality.specs.Marks.{find, places}
 use Rattle.causality.specs.State.{markId}
-use Rattle.rows.specs.View.{carriedAt, heldId, heldMark, placeAt, width}
+use Rattle.rows.specs.View.{carriedAt, width}
+use Rattle.rows.specs.inner.Slots.{heldId, heldMark, placeAt}
 use Rattle.rows.proofs.Places.{found-none, found-some}
 use Rattle.rows.proofs.Slots.{has-slot}
 use Rattle.executed.proofs.Chain.{found-inside, found-place}

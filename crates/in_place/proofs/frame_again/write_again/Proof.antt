@@ -7,7 +7,8 @@ use borrow.Author.Needs.{needs}
 use Rattle.causality.specs.Marks.{find, places}
 use Rattle.causality.specs.Meaning.{idOf}
 use Rattle.causality.specs.State.{markId}
-use Rattle.rows.specs.View.{carriedAt, placeAt, width}
+use Rattle.rows.specs.View.{carriedAt, width}
+use Rattle.rows.specs.inner.Slots.{placeAt}
 use Rattle.rows.proofs.Slots.{has-slot}
 use Rattle.executed.proofs.Chain.{found-inside, found-place}
 use Rattle.waiting.specs.declared.Waiting.{Waiting}

@@ -4,7 +4,7 @@ use native.Mathlib.Omega.{arith}
 use borrow.Author.Needs.{needs}
 use borrow.Author.Tests.{not-false, not-true}
 use Rattle.frame.specs.Frame.{writing}
-use Rattle.rows.specs.View.{heldMark}
+use Rattle.rows.specs.inner.Slots.{heldMark}
 use Rattle.verdict.proofs.Invariant.{kept-count, kept-own, kept-total}
 use Rattle.in_place.proofs.Marking.{box-refused, full-refused, has-room, is-full, made, place-left, write-refused}
 use Rattle.in_place.proofs.MarkLaws.{mark-takes, next-mark, tally-small}

@@ -3,8 +3,9 @@ use mathlib.Core.Path.{_≡_, _∙_, ap, refl, subst, sym}
 use borrow.Author.Needs.{needs}
 use Rattle.frame.specs.Answer.{gives}
 use Rattle.frame.specs.Frame.{readFields, reading}
-use Rattle.frame.specs.Mark.{desks}
-use Rattle.causality.proofs.Fit.{Fit, frame-fit}
+use Rattle.frame.specs.Names.{desks}
+use Rattle.causality.proofs.Fit.{frame-fit}
+use Rattle.causality.specs.inner.Fit.{Fit}
 use Rattle.executed.specs.Arrays.{Arrays, here}
 use Rattle.waiting.specs.Queue.{here as heldHere}
 use Rattle.waiting.specs.declared.Waiting.{Waiting}

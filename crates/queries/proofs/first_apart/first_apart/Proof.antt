@@ -8,18 +8,19 @@ use borrow.Author.Tests.{not-false, not-true}
 use native.Mathlib.Numerals.{add-one}
 use native.Mathlib.Omega.{arith}
 use Rattle.frame.specs.Answer.{gives}
-use Rattle.frame.specs.Mark.{isDesk}
+use Rattle.frame.specs.Names.{isDesk}
 use Rattle.causality.specs.Calls.{firstApart}
 use Rattle.causality.specs.Meaning.{idOf}
 use Rattle.causality.specs.State.{Mark}
 use Rattle.causality.proofs.Apart.{above-no, above-yes, lowestAbove}
 use Rattle.causality.proofs.Fit.{desk-facts}
-use Rattle.causality.proofs.Reach.{Sound}
-use Rattle.executed.specs.Rows.{Lent}
+use Rattle.causality.specs.inner.Order.{CausallyOrdered}
+use Rattle.executed.specs.inner.Rows.{Lent}
 use Rattle.executed.proofs.Chain.{found-inside}
-use Rattle.rows.specs.View.{Carried, Named, view, width}
+use Rattle.rows.specs.View.{Carried, view, width}
+use Rattle.rows.specs.inner.Slots.{Named}
 use Rattle.rows.proofs.RowSteps.{named-less}
-use Rattle.queries.specs.Lent.{lent}
+use Rattle.queries.specs.inner.Lent.{queriedState}
 use Rattle.queries.proofs.FirstApart.{first-lowest, first-no-desk, first-none}
 use Rattle.queries.proofs.first_apart.first_apart.Statement.{statement}
 use Rattle.queries.proofs.first_apart.first_apart.Tie as tie
@@ -64,8 +65,8 @@ search-requires c κs =
 given : (c : tie.After-search) → let m = c .before in
     let a = m .before .before .before .before .before .args in
     (count own : ℕ) (bs : ℕ → Carried) (waiting : List Mark) → Lent count (a .desks .now) (a .numbers .now) (a .tally .now) (a .last .now) (a .before .now)
-    → Sound (view width count (a .desks .now) (a .numbers .now) bs (a .stamps .now))
-    → firstApart width (lent count (a .desks .now) (a .numbers .now) (a .stamps .now) own bs waiting) (idOf (a .a)) (a .desk) ≡ gives (lowestAbove (c .search .result .precede) (m .made-before .result))
+    → CausallyOrdered (view width count (a .desks .now) (a .numbers .now) bs (a .stamps .now))
+    → firstApart width (queriedState count (a .desks .now) (a .numbers .now) (a .stamps .now) own bs waiting) (idOf (a .a)) (a .desk) ≡ gives (lowestAbove (c .search .result .precede) (m .made-before .result))
 given c count own bs waiting l sound =
     let m = c .before in
     let e = m .before in

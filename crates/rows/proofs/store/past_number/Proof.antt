@@ -5,7 +5,7 @@ use native.Mathlib.Omega.{arith}
 use borrow.Author.Needs.{needs}
 use borrow.Author.Tests.{ltb-false}
 use Rattle.frame.specs.Frame.{pastBad}
-use Rattle.frame.specs.Mark.{pasts}
+use Rattle.frame.specs.Names.{pasts}
 use Rattle.frame.specs.declared.Past.{Past}
 use Rattle.rows.proofs.Pasts.{from-count}
 use Rattle.rows.proofs.store.past_number.Statement.{statement}

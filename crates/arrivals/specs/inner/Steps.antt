@@ -5,18 +5,21 @@ use mathlib.Core.List.{List}
 use Prim.Native.Nat.{ℕ, suc, _+_, _≤_, _<_}
 use lib.Dec.{T}
 use lib.ListN.{length}
-use Rattle.frame.specs.Mark.{desks}
+use Rattle.frame.specs.Names.{desks}
 use Rattle.causality.specs.Marks.{places, All, has, lowest}
 use Rattle.causality.specs.State.{Mark, markId, ids, ready}
 use Rattle.causality.specs.Calls.{receiveMark, release}
 use Rattle.causality.specs.Meaning.{reception}
-use Rattle.causality.specs.declared.Received.{Received}
-use Rattle.causality.proofs.Fit.{Fit}
-use Rattle.causality.proofs.Reach.{Sound}
-use Rattle.rows.specs.View.{carriedAt, heldMark, placeAt, width}
+use Rattle.causality.specs.declared.ReceiveAnswer.{ReceiveAnswer}
+use Rattle.causality.specs.inner.Fit.{Fit}
+use Rattle.causality.specs.inner.Order.{CausallyOrdered}
+use Rattle.rows.specs.View.{carriedAt, width}
+use Rattle.rows.specs.inner.Slots.{heldMark, placeAt}
 use Rattle.rows.specs.declared.Held.{Held}
-use Rattle.executed.specs.Arrays.{Arrays, Ordered, executedIn}
-use Rattle.waiting.specs.Queue.{Distinct, Queued, waitingIn}
+use Rattle.executed.specs.Arrays.{Arrays, executedIn}
+use Rattle.executed.specs.inner.Takes.{Ordered}
+use Rattle.waiting.specs.Queue.{waitingIn}
+use Rattle.waiting.specs.inner.Steps.{Distinct, Queued}
 use Rattle.waiting.specs.declared.Waiting.{Waiting}
 use Rattle.verdict.specs.Kept.{stateIn}
 use Rattle.arrivals.specs.declared.Released.{Released}
@@ -25,7 +28,7 @@ use Rattle.arrivals.specs.declared.Released.{Released}
 
 -- Executed and waiting marks between two turns of it: a waiting mark may be ready.
 pub record Between (l ws : List Mark) : Type 0 where
-  pub sound : Sound l
+  pub sound : CausallyOrdered l
   pub fresh : All (λ w. T (not (has (w .id) (ids l)))) ws
   pub distinct : Distinct ws
   pub room : length l + length ws ≤ places
@@ -71,7 +74,7 @@ pub record ReleasePromise (a : Arrays) (q : Waiting) (b : Arrays) (r : Waiting) 
       ≡ release (length (waitingIn q)) (executedIn a) (waitingIn q) 1 0
 
 -- RECEIVE of a mark that its frame gave, from arrays a and waiting marks q to b and r
-pub record Arrived (own : ℕ) (a : Arrays) (q : Waiting) (b : Arrays) (r : Waiting) (h : Held) (answer : Received) : Type 0 where
+pub record Arrived (own : ℕ) (a : Arrays) (q : Waiting) (b : Arrays) (r : Waiting) (h : Held) (answer : ReceiveAnswer) : Type 0 where
   pub state : stateIn own b r ≡ (receiveMark (stateIn own a q) (heldMark h)) .state
   pub reply : reception answer ≡ (receiveMark (stateIn own a q) (heldMark h)) .answer
   pub ordered : Ordered b

@@ -5,27 +5,28 @@ use mathlib.Core.Path.{_≡_}
 use Prim.Native.Nat.{ℕ, suc, min, _-_, _≤_, _<_}
 use lib.Dec.{leb, ltb}
 use lib.ListN.{length, getD, take}
-use Rattle.frame.specs.Mark.{MarkId}
+use Rattle.frame.specs.Names.{MarkId}
 use Rattle.causality.specs.Evidence.{inPast}
 use Rattle.causality.specs.Marks.{has, tally}
 use Rattle.causality.specs.State.{ids, precedes}
-use Rattle.causality.proofs.Reach.{Sound}
+use Rattle.causality.specs.inner.Order.{CausallyOrdered}
 use Rattle.causality.specs.inner.Passes.{under}
-use Rattle.executed.specs.Rows.{Lent}
-use Rattle.rows.specs.View.{Carried, nameAt, namesDown, rowAt, rowFn, view, width}
+use Rattle.executed.specs.inner.Rows.{Lent}
+use Rattle.rows.specs.View.{Carried, nameAt, namesDown, rowAt, view, width}
+use Rattle.rows.specs.inner.Slots.{rowFn}
 use Rattle.queries.specs.declared.first_apart.Searched.{Searched}
 use Rattle.queries.specs.Halving.{halving, mostAsks}
-use Rattle.queries.specs.Lent.{OfMarks}
+use Rattle.queries.specs.inner.Lent.{OfMarks}
 
 -- Of a mark that is none of the first `to`, r says whether entries lead to it from a row and the marks before a place.
 abbrev pub Leads : List ℕ → List ℕ → List ℕ → List ℕ → ℕ → ℕ → MarkId → Bool → Type 0
-Leads ds ns ss row at to i r = (bs : ℕ → Carried) → Sound (view width at ds ns bs ss)
+Leads ds ns ss row at to i r = (bs : ℕ → Carried) → CausallyOrdered (view width at ds ns bs ss)
     → has i (ids (view width to ds ns bs ss)) ≡ false → 1 ≤ i .number
     → r ≡ leb (i .number) (under (view width at ds ns bs ss) (λ d. 0) (rowFn row) (i .desk))
 
 -- r says whether the mark at place p precedes that at place q.
 abbrev pub PrecedesAt : List ℕ → List ℕ → List ℕ → ℕ → ℕ → Bool → Type 0
-PrecedesAt ds ns ss p q r = (count : ℕ) (bs : ℕ → Carried) → q < count → Sound (view width count ds ns bs ss)
+PrecedesAt ds ns ss p q r = (count : ℕ) (bs : ℕ → Carried) → q < count → CausallyOrdered (view width count ds ns bs ss)
     → r ≡ precedes (view width count ds ns bs ss) (nameAt ds ns p) (nameAt ds ns q)
 
 -- A row has for each desk how many of its marks precede that at place p, however many marks there are.
@@ -33,7 +34,7 @@ abbrev pub PastOf : List ℕ → List ℕ → List ℕ → ℕ → List ℕ → 
 PastOf ds ns ss p row = (count : ℕ) → p < count
     → OfMarks width count ds ns ss (λ l. (d : ℕ) → 1 ≤ d → d ≤ width → rowFn row d ≡ inPast l d (nameAt ds ns p))
 
--- So many marks of desk d are among the first p.
+-- r marks of desk d stand below place p.
 abbrev pub MadeBefore : List ℕ → List ℕ → List ℕ → List ℕ → ℕ → ℕ → ℕ → Type 0
 MadeBefore ds ns ts ls d p r = (count : ℕ) (bf : List ℕ) → Lent count ds ns ts ls bf → p ≤ count → r ≡ tally d (namesDown p ds ns)
 
@@ -54,25 +55,25 @@ pub record AskedOf (ds ns ss row : List ℕ) (at : ℕ) (i : MarkId) (after : Li
   pub ends : endsAt ds ns i r (rowFn after (i .desk)) ≡ true
   pub first : (bs : ℕ → Carried) (q : ℕ) → r < q → q ≤ at → endsAt ds ns i q (followedTo ds ns bs ss row at q (i .desk)) ≡ false
 
--- Does mark k of desk d precede the mark at place p, among so many marks? n: how many desks.
+-- Does mark k of desk d precede the mark at place p, among the marks below `count`? n: how many desks.
 abbrev pub numberPrecedes : ℕ → ℕ → List ℕ → List ℕ → (ℕ → Carried) → List ℕ → ℕ → ℕ → ℕ → Bool
 numberPrecedes n count ds ns bs ss p d k = precedes (view n count ds ns bs ss) (record { desk = d; number = k }) (nameAt ds ns p)
 
 -- Of the first t marks of desk d, those up to r precede the mark at place p, however many marks there are.
 abbrev pub FirstRunAt : ℕ → List ℕ → List ℕ → List ℕ → ℕ → ℕ → ℕ → ℕ → Type 0
-FirstRunAt n ds ns ss p d t r = (count : ℕ) (bs : ℕ → Carried) → p < count → Sound (view n count ds ns bs ss)
+FirstRunAt n ds ns ss p d t r = (count : ℕ) (bs : ℕ → Carried) → p < count → CausallyOrdered (view n count ds ns bs ss)
     → (k : ℕ) → 1 ≤ k → k ≤ t → numberPrecedes n count ds ns bs ss p d k ≡ leb k r
 
 -- So many of the first t marks of desk d precede that at place p. This was asked of those that halving takes, above the entry of its stamp.
 pub record SearchedOf (ds ns ss : List ℕ) (p d t : ℕ) (r : Searched) : Type 0 where
   pub few : r .precede ≤ t
   pub run : FirstRunAt width ds ns ss p d t (r .precede)
-  pub asks : (count : ℕ) (bs : ℕ → Carried) → p < count → Sound (view width count ds ns bs ss)
+  pub asks : (count : ℕ) (bs : ℕ → Carried) → p < count → CausallyOrdered (view width count ds ns bs ss)
       → r .asks ≡ length (halving (numberPrecedes width count ds ns bs ss p d) mostAsks (min (rowAt width ss p d) t) t)
 
--- To so many marks of desk d, at most `most`, entries lead from a row and the marks before a place.
+-- To r marks of desk d, at most `most`, entries lead from a row and the marks before a place.
 abbrev pub LeadsTo : List ℕ → List ℕ → List ℕ → List ℕ → ℕ → ℕ → ℕ → ℕ → Type 0
-LeadsTo ds ns ss row at d most r = (bs : ℕ → Carried) → Sound (view width at ds ns bs ss)
+LeadsTo ds ns ss row at d most r = (bs : ℕ → Carried) → CausallyOrdered (view width at ds ns bs ss)
     → r ≡ min most (under (view width at ds ns bs ss) (λ d. 0) (rowFn row) d)
 
 -- So many marks of desk d, at most `most`, precede that at place p, however many marks there are.

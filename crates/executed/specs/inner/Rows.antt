@@ -1,16 +1,17 @@
--- The rows that a desk keeps beside its executed marks: tally, heads, and the chain of each desk's places.
+-- The rows that a desk keeps beside its executed marks: tally, heads, and the chain of each desk's places. Inner: need not be believed.
 use mathlib.Core.Path.{_≡_}
 use mathlib.Core.Bool.{true, false}
 use mathlib.Core.List.{List, [], _∷_}
 use Prim.Native.Nat.{ℕ, suc, _≤_, _<_}
 use lib.Dec.{T, eqb}
 use lib.ListN.{length, getD}
-use Rattle.frame.specs.Mark.{MarkId}
+use Rattle.frame.specs.Names.{MarkId}
 use Rattle.causality.specs.Marks.{places, has, same, tally}
 use Rattle.causality.specs.State.{Mark, heads, ids}
-use Rattle.causality.proofs.Past.{Counted}
+use Rattle.causality.specs.inner.Order.{Consecutive}
 use Rattle.causality.specs.inner.Passes.{rowOf}
-use Rattle.rows.specs.View.{Named, ZeroFrom, namesDown, width}
+use Rattle.rows.specs.View.{ZeroFrom, namesDown, width}
+use Rattle.rows.specs.inner.Slots.{Named}
 
 -- The place of desk d's last mark, plus 1; 0 if it has none.
 abbrev pub lastIn : ℕ → List MarkId → ℕ
@@ -34,8 +35,6 @@ pub record Rows (l : List Mark) (ts hs ls bf : List ℕ) : Type 0 where
   pub before : Chained (ids l) bf
   pub unused : ZeroFrom bf places (length (ids l))
 
--- INNER: need not be believed
-
 -- The place of a name, plus 1; 0 if it is not listed.
 abbrev pub placeIn : List MarkId → MarkId → ℕ
 placeIn [] a = 0
@@ -43,7 +42,7 @@ placeIn (i ∷ is) a = elim (same a i) [ true ↦ suc (length is) | false ↦ pl
 
 -- What finding a place rests on: tally and chain of names that are numbered one behind another at each desk.
 pub record Chain (is : List MarkId) (ts ls bf : List ℕ) : Type 0 where
-  pub counted : Counted is
+  pub counted : Consecutive is
   pub few : length is ≤ places
   pub named : (a : MarkId) → T (has a is) → (1 ≤ a .desk) × (a .desk ≤ width)
   pub tally : (j : ℕ) → j < width → getD ts j 0 ≡ tally (suc j) is
@@ -64,7 +63,7 @@ pub record HasChain (ts ls bf : List ℕ) : Type 0 where
 abbrev pub Finds : List ℕ → List ℕ → List ℕ → MarkId → ℕ → Type 0
 Finds ts ls bf a r = (is : List MarkId) → Chain is ts ls bf → PlaceOf is a r
 
--- What a query rests on: so many marks of desks 1 to the width, with their tally and chain.
+-- What a query rests on: the marks below `count`, of desks 1 to the width, with their tally and chain.
 pub record Lent (count : ℕ) (ds ns ts ls bf : List ℕ) : Type 0 where
   pub few : count ≤ places
   pub named : Named width count ds

@@ -12,14 +12,15 @@ use Rattle.causality.specs.Marks.{has, tally}
 use Rattle.causality.specs.State.{Mark, State, ids, ready, falseStamp, reckoned}
 use Rattle.causality.specs.Answers.{Judgement, knows, waits, executes}
 use Rattle.causality.specs.Calls.{admit}
-use Rattle.causality.proofs.Reach.{Sound}
-use Rattle.rows.specs.View.{Carried, carriedAt, heldId, heldMark, heldWith, namesDown, pastFrom, rowFn, view, width}
+use Rattle.causality.specs.inner.Order.{CausallyOrdered}
+use Rattle.rows.specs.View.{Carried, carriedAt, namesDown, pastFrom, view, width}
+use Rattle.rows.specs.inner.Slots.{heldId, heldMark, heldWith, rowFn}
 use Rattle.rows.specs.declared.Held.{Held}
 use Rattle.executed.specs.Arrays.{arrays}
 use Rattle.waiting.specs.Queue.{waitingIn}
 use Rattle.waiting.specs.declared.Waiting.{Waiting}
 use Rattle.verdict.specs.declared.Verdict.{Verdict}
-use Rattle.verdict.specs.declared.Verdict.the-variants.{Refused, Known, Waits, Runs}
+use Rattle.verdict.specs.declared.Verdict.the-variants.{Refused, Known, Waits, Executes}
 use Rattle.verdict.specs.Kept.{KeptIn}
 
 -- What a verdict on a held mark means. What is kept of the past of a mark that runs is its reckoning.
@@ -27,7 +28,7 @@ abbrev pub meant : Held → Verdict → Answer (Judgement Mark)
 meant h (Refused r) = refused (numberOf r)
 meant h Known = gives knows
 meant h (Waits short) = gives (waits (heldMark h) short)
-meant h (Runs past) = gives (executes (heldMark (heldWith h past)))
+meant h (Executes past) = gives (executes (heldMark (heldWith h past)))
 
 -- Known or 8, of a mark of the same name with the same fields or not.
 abbrev pub knownIf : Bool → Answer (Judgement Mark)
@@ -47,10 +48,10 @@ pub record Asked (row : List ℕ) (desk number : ℕ) (r : List ℕ) : Type 0 wh
 abbrev pub Tallies : List Mark → List ℕ → Type 0
 Tallies l t = (e : ℕ) → 1 ≤ e → e ≤ width → rowFn t e ≡ tally e (ids l)
 
--- The first so many marks are those of a desk that came from New and the calls, with this tally, whatever else they carry.
+-- The marks below `count` are those of a desk that came from New and the calls, with this tally, whatever else they carry.
 pub record SoundIn (t : List ℕ) (count : ℕ) (ds ns ss : List ℕ) : Type 0 where
   pub carried : ℕ → Carried
-  pub sound : Sound (view width count ds ns carried ss)
+  pub sound : CausallyOrdered (view width count ds ns carried ss)
   pub long : length t ≡ width
   pub tallied : Tallies (view width count ds ns carried ss) t
 
@@ -68,13 +69,13 @@ abbrev pub pastKept : List Mark → Mark → Past
 pastKept l m = elim (falseStamp l m) [ true ↦ Unsaid | false ↦ reckoned l m .past ]
 
 abbrev pub Reckons : ℕ → List ℕ → List ℕ → List ℕ → Held → ℕ → Type 0
-Reckons count ds ns ss h r = (bs : ℕ → Carried) → Sound (view width count ds ns bs ss) → T (ready (view width count ds ns bs ss) (heldMark h))
+Reckons count ds ns ss h r = (bs : ℕ → Carried) → CausallyOrdered (view width count ds ns bs ss) → T (ready (view width count ds ns bs ss) (heldMark h))
     → pastFrom r ≡ pastKept (view width count ds ns bs ss) (heldMark h)
 
--- The verdict on a mark that is neither executed nor waiting, where so many wait, whatever they are.
+-- The verdict on a mark that is neither executed nor waiting, where `waiting` marks wait, whatever they are.
 abbrev pub AdmittedBy : List ℕ → ℕ → List ℕ → List ℕ → List ℕ → ℕ → Held → Verdict → Type 0
 AdmittedBy t count ds ns ss waiting h r = (own : ℕ) (bs : ℕ → Carried) (ws : List Mark) → length ws ≡ waiting
-    → Sound (view width count ds ns bs ss) → Tallies (view width count ds ns bs ss) t
+    → CausallyOrdered (view width count ds ns bs ss) → Tallies (view width count ds ns bs ss) t
     → meant h r ≡ admit (record { own = own; executed = view width count ds ns bs ss; waiting = ws }) (heldMark h)
 
 -- The arrays are those of a desk that came from New and the calls, with some heads; its state.

@@ -5,11 +5,12 @@ use mathlib.Core.List.{List}
 use Prim.Native.Nat.{ℕ, suc, max, _+_, _-_, _*_, _≤_, _<_}
 use lib.Dec.{eqb, leb, ltb}
 use lib.ListN.{length, getD, take}
-use Rattle.frame.specs.Mark.{MarkId}
+use Rattle.frame.specs.Names.{MarkId}
 use Rattle.causality.specs.Marks.{tally}
 use Rattle.causality.specs.inner.Passes.{under}
 use Rattle.causality.specs.inner.Upto.{allTo, countTo, someReached, sumTo}
-use Rattle.rows.specs.View.{Carried, width, rowFn, nameAt, view, namesDown}
+use Rattle.rows.specs.View.{Carried, width, nameAt, view, namesDown}
+use Rattle.rows.specs.inner.Slots.{rowFn}
 
 -- A row joined with row p of the stamps: at each desk the greater count.
 pub record Joined (ss : List ℕ) (p : ℕ) (before after : List ℕ) : Type 0 where
@@ -42,7 +43,7 @@ pub record Settled (ds ns ss entries : List ℕ) (at : ℕ) (before : List ℕ) 
 abbrev pub greaterSum : ℕ → List ℕ → List ℕ → ℕ
 greaterSum k r s = sumTo k (λ d. max (rowFn r d) (rowFn s d))
 
--- A mark stands at a place from p on, of the first so many.
+-- A mark stands at a place from p on, below `count`.
 pub record StandsFrom (ds ns : List ℕ) (count p : ℕ) (i : MarkId) : Type 0 where
   pub place : ℕ
   pub low : p ≤ place

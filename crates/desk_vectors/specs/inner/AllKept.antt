@@ -1,4 +1,4 @@
--- An array of sixteen desks, each of which came from New and the calls.
+-- An array of sixteen desks, each of which came from New and the calls. Inner: need not be believed.
 use mathlib.Core.List.{List}
 use mathlib.Core.Path.{_≡_}
 use Prim.Native.Nat.{ℕ, _<_}

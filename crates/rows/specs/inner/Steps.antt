@@ -6,9 +6,10 @@ use lib.ListN.{length, getD, set, take}
 use Rattle.frame.specs.Frame.{entryBytes}
 use Rattle.causality.specs.Rows.{entriesOfRow}
 use Rattle.rows.specs.declared.Held.{Held}
-use Rattle.rows.specs.View.{width, rowFn, boxAt, SameOutside}
+use Rattle.rows.specs.View.{width, boxAt}
+use Rattle.rows.specs.inner.Slots.{rowFn, SameOutside}
 
--- The first so many bytes are the entries of a row.
+-- The first `size` bytes are the entries of a row.
 abbrev pub EntriesIn : List ℕ → List ℕ → ℕ → Type 0
 EntriesIn row bytes size = (size ≤ width * 3) × (take size bytes ≡ entryBytes (entriesOfRow width (rowFn row)))
     × (size ≡ length (entryBytes (entriesOfRow width (rowFn row))))

@@ -6,8 +6,8 @@ use lib.ListN.{length, getD}
 use Rattle.frame.specs.Frame.{overIf}
 use Rattle.causality.specs.Meaning.{counting}
 use Rattle.causality.specs.Tables.{countLimit, pairTables, pairsApart, pairsBefore, tableSize, tables}
-use Rattle.causality.specs.declared.Counted.{Counted}
-use Rattle.queries.specs.Lent.{OfMarks}
+use Rattle.causality.specs.declared.ApartAnswer.{ApartAnswer}
+use Rattle.queries.specs.inner.Lent.{OfMarks}
 use Rattle.rows.specs.View.{width}
 use Rattle.tables.specs.declared.Tables.{Tables}
 
@@ -41,11 +41,11 @@ pub record Holds (n : ℕ) (f : ℕ → ℕ → ℕ) (table : List ℕ) : Type 0
   pub long : length table ≡ tableSize n
   pub cells : (i j : ℕ) → i < n → j < n → getD table (i * n + j) 0 ≡ f (suc i) (suc j)
 
--- The tables of so many marks.
+-- The tables of the marks below `count`.
 abbrev pub TablesOf : ℕ → List ℕ → List ℕ → List ℕ → Tables → Type 0
 TablesOf count ds ns ss r = OfMarks width count ds ns ss (λ l. Holds width (pairsApart l) (r .apart) × Holds width (pairsBefore l) (r .before))
 
 -- The answer, and the lent counts after the call.
-pub record Filled (count : ℕ) (ds ns ss before after : List ℕ) (r : Counted) : Type 0 where
+pub record Filled (count : ℕ) (ds ns ss before after : List ℕ) (r : ApartAnswer) : Type 0 where
   pub answer : counting r ≡ pairTables width (length before)
   pub counts : OfMarks width count ds ns ss (λ l. after ≡ overIf (pairTables width (length before)) (tables width (pairsApart l) (pairsBefore l)) before)

@@ -5,17 +5,18 @@ use mathlib.Core.Path.{_≡_}
 use Prim.Native.Nat.{ℕ, suc, min, _+_, _-_, _*_, _≤_, _<_}
 use lib.Dec.{T, eqb, leb, ltb}
 use lib.ListN.{getD}
-use Rattle.frame.specs.Mark.{MarkId}
+use Rattle.frame.specs.Names.{MarkId}
 use Rattle.causality.specs.Evidence.{goingBack, inPast}
 use Rattle.causality.specs.Marks.{places}
 use Rattle.causality.specs.State.{Mark}
-use Rattle.causality.specs.declared.Evidence.{Evidence}
-use Rattle.causality.specs.declared.Evidence.the-variants.{Same, Before, After, Concurrent}
+use Rattle.causality.specs.declared.EvidenceAnswer.{EvidenceAnswer}
+use Rattle.causality.specs.declared.EvidenceAnswer.the-variants.{Same, Before, After, Concurrent}
 use Rattle.pairs.specs.Pairs.{Spare}
 use Rattle.pairs.specs.declared.Listed.{Listed}
-use Rattle.rows.specs.View.{Named, nameAt, namesDown}
-use Rattle.concurrent.specs.Steps.{Tells, isOrFollows}
-use Rattle.queries.specs.Lent.{OfMarks}
+use Rattle.rows.specs.View.{nameAt, namesDown}
+use Rattle.rows.specs.inner.Slots.{Named}
+use Rattle.concurrent.specs.inner.Steps.{Tells, isOrFollows}
+use Rattle.queries.specs.inner.Lent.{OfMarks}
 
 -- Does the entry at index j of row q of the stamps reach the row?
 abbrev pub reachedAt : ℕ → List ℕ → List ℕ → ℕ → ℕ → Bool
@@ -56,8 +57,8 @@ pub record Reversed (list r : Listed) : Type 0 where
   pub spare : Spare r
   pub names : namesDown (r .count) (r .desks) (r .numbers) ≡ reverse (namesDown (list .count) (list .desks) (list .numbers))
 
--- The verdict of two places between which there is a chain of so many.
-abbrev pub verdictAt : ℕ → ℕ → ℕ → Evidence
+-- The verdict of two places between which there is a chain of n marks.
+abbrev pub verdictAt : ℕ → ℕ → ℕ → EvidenceAnswer
 verdictAt p q n = elim (eqb p q) [ true ↦ Same n | false ↦ elim (ltb p q) [ true ↦ Before n | false ↦ After n ] ]
 
 -- A mark stands at place p: its number is of a first one or a later, and the desks up to there are desks.
@@ -71,5 +72,5 @@ abbrev pub countedBefore : List Mark → List ℕ → List ℕ → ℕ → ℕ �
 countedBefore l ds ns p q = min (getD ns p 0 - 1) (inPast l (getD ds p 0) (nameAt ds ns q))
 
 -- The counts of the marks at two places.
-abbrev pub CountsOf : ℕ → List ℕ → List ℕ → List ℕ → ℕ → ℕ → Evidence → Type 0
+abbrev pub CountsOf : ℕ → List ℕ → List ℕ → List ℕ → ℕ → ℕ → EvidenceAnswer → Type 0
 CountsOf n ds ns ss p q r = (count : ℕ) → p < count → q < count → OfMarks n count ds ns ss (λ l. r ≡ Concurrent (countedBefore l ds ns p q) (countedBefore l ds ns q p))
