@@ -241,16 +241,7 @@ pub extern "C" fn kaungimewe_first_apart_lent<'a>(
         (queryLent (desks .entry) (numbers .entry) (stamps .entry) (tally .entry) (last .entry) (before .entry)) (markId a n) desk r ⌝ }
 {
     let mark = named(a, n);
-    numbers::lowest(queries::first_apart::first_apart(
-        desks,
-        numbers,
-        stamps,
-        tally,
-        last,
-        before,
-        mark,
-        desk,
-    ))
+    numbers::lowest(halving::first_apart(desks, numbers, stamps, tally, last, before, mark, desk))
 }
 
 #[no_mangle]

@@ -10,7 +10,7 @@ impl Desk {
         requires { ⌜ Kept self ⌝ }
         ensures { λ r. ⌜ FirstApartPromise self a desk r ⌝ }
     {
-        let answer = queries::first_apart::first_apart(
+        let answer = halving::first_apart(
             &self.desks,
             &self.numbers,
             &self.stamps,

@@ -12,10 +12,8 @@ use Rattle.causality.specs.State.{ids, precedes}
 use Rattle.causality.specs.inner.Order.{CausallyOrdered}
 use Rattle.causality.specs.inner.Passes.{under}
 use Rattle.executed.specs.inner.Rows.{Lent}
-use Rattle.rows.specs.View.{Carried, nameAt, namesDown, rowAt, view, width}
+use Rattle.rows.specs.View.{Carried, nameAt, namesDown, view, width}
 use Rattle.rows.specs.inner.Slots.{rowFn}
-use Rattle.queries.specs.declared.first_apart.Searched.{Searched}
-use Rattle.queries.specs.Halving.{halving, mostAsks}
 use Rattle.queries.specs.inner.Lent.{OfMarks}
 
 -- Of a mark that is none of the first `to`, r says whether entries lead to it from a row and the marks before a place.
@@ -54,22 +52,6 @@ pub record AskedOf (ds ns ss row : List ℕ) (at : ℕ) (i : MarkId) (after : Li
   pub standing : made ≡ tally (i .desk) (namesDown r ds ns)
   pub ends : endsAt ds ns i r (rowFn after (i .desk)) ≡ true
   pub first : (bs : ℕ → Carried) (q : ℕ) → r < q → q ≤ at → endsAt ds ns i q (followedTo ds ns bs ss row at q (i .desk)) ≡ false
-
--- Does mark k of desk d precede the mark at place p, among the marks below `count`? n: how many desks.
-abbrev pub numberPrecedes : ℕ → ℕ → List ℕ → List ℕ → (ℕ → Carried) → List ℕ → ℕ → ℕ → ℕ → Bool
-numberPrecedes n count ds ns bs ss p d k = precedes (view n count ds ns bs ss) (record { desk = d; number = k }) (nameAt ds ns p)
-
--- Of the first t marks of desk d, those up to r precede the mark at place p, however many marks there are.
-abbrev pub FirstRunAt : ℕ → List ℕ → List ℕ → List ℕ → ℕ → ℕ → ℕ → ℕ → Type 0
-FirstRunAt n ds ns ss p d t r = (count : ℕ) (bs : ℕ → Carried) → p < count → CausallyOrdered (view n count ds ns bs ss)
-    → (k : ℕ) → 1 ≤ k → k ≤ t → numberPrecedes n count ds ns bs ss p d k ≡ leb k r
-
--- So many of the first t marks of desk d precede that at place p. This was asked of those that halving takes, above the entry of its stamp.
-pub record SearchedOf (ds ns ss : List ℕ) (p d t : ℕ) (r : Searched) : Type 0 where
-  pub few : r .precede ≤ t
-  pub run : FirstRunAt width ds ns ss p d t (r .precede)
-  pub asks : (count : ℕ) (bs : ℕ → Carried) → p < count → CausallyOrdered (view width count ds ns bs ss)
-      → r .asks ≡ length (halving (numberPrecedes width count ds ns bs ss p d) mostAsks (min (rowAt width ss p d) t) t)
 
 -- To r marks of desk d, at most `most`, entries lead from a row and the marks before a place.
 abbrev pub LeadsTo : List ℕ → List ℕ → List ℕ → List ℕ → ℕ → ℕ → ℕ → ℕ → Type 0

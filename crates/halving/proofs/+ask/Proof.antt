@@ -11,14 +11,14 @@ use Rattle.causality.specs.Meaning.{idOf}
 use Rattle.causality.specs.Marks.{places, tally}
 use Rattle.rows.specs.View.{namesDown, width}
 use Rattle.rows.proofs.RowSteps.{named-at, named-less}
 use Rattle.queries.proofs.Asking.{Turned, asked-counted, asked-on, asked-passed, not-ended, some-place, turned-joined, turned-passed}
 use Rattle.queries.proofs.MadeBefore.{other-same, own-less}
-use Rattle.queries.proofs.first_apart.ask.Reads as ask
-use Rattle.queries.proofs.first_apart.ask.Kinds as ask-kinds
-use Rattle.queries.proofs.first_apart.+ask.Lts-ask as ask-lts
+use Rattle.halving.proofs.ask.Reads as ask
+use Rattle.halving.proofs.ask.Kinds as ask-kinds
+use Rattle.halving.proofs.+ask.Lts-ask as ask-lts
 use Rattle.predecessors.proofs.join.Reads as join-reads
-use Rattle.queries.proofs.first_apart.+ask.{statement}
-use Rattle.queries.proofs.first_apart.+ask.Tie.{close}
+use Rattle.halving.proofs.+ask.{statement}
+use Rattle.halving.proofs.+ask.Tie.{close}
 
 abbrev μ-ask : Measures 3 ask-kinds.ps ℕ
 μ-ask κs a = a .1 .1 .1 .1 .1 .0 .0

@@ -4,9 +4,9 @@ use borrow.Author.Needs.{needs}
 use mathlib.Core.Path.{refl}
 use native.Mathlib.Omega.{arith}
 use Rattle.causality.specs.Marks.{places}
 use Rattle.queries.proofs.MadeBefore.{NoneDown, made-all, made-met, made-none, none-more}
-use Rattle.queries.proofs.first_apart.made_before.Statement.{statement}
-use Rattle.queries.proofs.first_apart.made_before.Tie as tie
+use Rattle.halving.proofs.made_before.Statement.{statement}
+use Rattle.halving.proofs.made_before.Tie as tie
 
 abbrev Inv-loop : tie.InvT-loop
 Inv-loop desks numbers tally last desk d q₀ q = NoneDown desks numbers desk q₀ q

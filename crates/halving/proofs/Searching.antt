@@ -14,12 +14,13 @@ use Rattle.rows.specs.View.{Carried, namesDown, rowAt, view, width, nameAt}
 use Rattle.rows.specs.inner.Slots.{Named, rowFn}
 use Rattle.rows.proofs.Arrays.{sound-below}
 use Rattle.rows.proofs.RowSteps.{named-less}
-use Rattle.queries.specs.Halving.{halving, middle, mostAsks}
-use Rattle.queries.specs.inner.Steps.{AskedOf, SearchedOf, numberPrecedes}
+use Rattle.halving.specs.Halving.{halving, middle, mostAsks}
+use Rattle.queries.specs.inner.Steps.{AskedOf}
+use Rattle.halving.specs.inner.Steps.{SearchedOf, numberPrecedes}
 use Rattle.queries.proofs.Asking.{asked-reaches, asked-told}
 use Rattle.queries.proofs.MadeBefore.{tally-few}
 use Rattle.queries.proofs.PastRow.{reached-counts}
 use Rattle.queries.proofs.Reaching.{reached}
 use Rattle.rows.proofs.Down.{down-length}
 
 -- 2 to the n: n turns are enough for fewer numbers.

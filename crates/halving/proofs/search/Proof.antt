@@ -7,9 +7,9 @@ use native.Mathlib.Omega.{arith}
 use Rattle.causality.specs.Marks.{tally}
 use Rattle.rows.specs.View.{namesDown, width}
 use Rattle.rows.proofs.RowSteps.{named-less}
-use Rattle.queries.proofs.Searching.{Halved, few-asks, fewer-asks, halved-end, halved-high, halved-low, halved-start}
-use Rattle.queries.proofs.first_apart.search.Statement.{statement}
-use Rattle.queries.proofs.first_apart.search.Tie as tie
+use Rattle.halving.proofs.Searching.{Halved, few-asks, fewer-asks, halved-end, halved-high, halved-low, halved-start}
+use Rattle.halving.proofs.search.Statement.{statement}
+use Rattle.halving.proofs.search.Tie as tie
 
 abbrev Inv-loop : tie.InvT-loop
 Inv-loop desks numbers stamps desk t d row₀ made₀ at₀ low₀ high₀ asks₀ row made at low high asks =

@@ -20,9 +20,10 @@ use Rattle.executed.proofs.Chain.{found-inside, found-place}
 use Rattle.rows.specs.View.{Carried, markAt, view, width}
 use Rattle.rows.specs.inner.Slots.{placeAt}
 use Rattle.rows.proofs.Places.{found-none, found-some, has-at, not-before}
 use Rattle.queries.specs.inner.Lent.{queriedState}
-use Rattle.queries.specs.inner.Steps.{FirstRunAt, MadeBefore}
+use Rattle.queries.specs.inner.Steps.{MadeBefore}
+use Rattle.halving.specs.inner.Steps.{FirstRunAt}
 use Rattle.queries.proofs.MadeBefore.{made-first}
 
 -- The answer by its two tests.
 answer-as : (N : ℕ) (st : State) (a : MarkId) (d : ℕ) (x y : Bool) (v : ℕ) → isDesk N d ≡ x → has a (ids (st .executed)) ≡ y

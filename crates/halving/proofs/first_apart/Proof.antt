@@ -20,10 +20,10 @@ use Rattle.executed.proofs.Chain.{found-inside}
 use Rattle.rows.specs.View.{Carried, view, width}
 use Rattle.rows.specs.inner.Slots.{Named}
 use Rattle.rows.proofs.RowSteps.{named-less}
 use Rattle.queries.specs.inner.Lent.{queriedState}
-use Rattle.queries.proofs.FirstApart.{first-lowest, first-no-desk, first-none}
-use Rattle.queries.proofs.first_apart.first_apart.Statement.{statement}
-use Rattle.queries.proofs.first_apart.first_apart.Tie as tie
+use Rattle.halving.proofs.FirstApart.{first-lowest, first-no-desk, first-none}
+use Rattle.halving.proofs.first_apart.Statement.{statement}
+use Rattle.halving.proofs.first_apart.Tie as tie
 
 returns : tie.Need-returns
 returns c count own bs waiting l sound = sym (first-no-desk width _ _ _ (sym (c .before .is-desk .ensures) ∙ not-true _ (c .if1 .taken)))
