@@ -18,7 +18,7 @@ use Rattle.causality.proofs.Cases.{Arrives}
 use Rattle.causality.specs.inner.Fit.{Fit}
 use Rattle.causality.proofs.Invariant.{count-fit, fit-with, kept}
 use Rattle.causality.proofs.Lists.{all-map, lowest-picked, lowest-shorter, without-all}
-use Rattle.causality.proofs.Logic.{or-cases, same-refl, same→eq}
+use Rattle.causality.proofs.Logic.{or-yes, same-refl, same→eq}
 use Rattle.causality.proofs.Reach.{execute-reach, follows-of}
 use Rattle.causality.specs.inner.Order.{CausallyOrdered}
 use Rattle.waiting.proofs.DistinctLaws.{distinct-without, waiting-distinct}
@@ -68,7 +68,7 @@ module _ (l ws : List Mark) (w : Mark) (m : Between l ws) (e : lowest markId (re
       }
     where
       other : (v : Mark) → T (not (has (v .id) (ids l))) × T (not (same (w .id) (v .id))) → T (not (has (v .id) (w .id ∷ ids l)))
-      other v x = not-T (has (v .id) (w .id ∷ ids l)) (λ u. elim (or-cases (same (v .id) (w .id)) (has (v .id) (ids l)) u) [
+      other v x = not-T (has (v .id) (w .id ∷ ids l)) (λ u. elim (or-yes (same (v .id) (w .id)) (has (v .id) (ids l)) u) [
         | inl q ↦ T-not (same (w .id) (v .id)) (x .1) (rw (same→eq (v .id) (w .id) q) (same-refl (w .id)))
         | inr q ↦ T-not (has (v .id) (ids l)) (x .0) q
       ])

@@ -1,6 +1,6 @@
 -- Order 5: the evidence behind a verdict is Relate's verdict, with a chain of entries or with counts below the marks' own numbers. Assumes nothing.
 use Prim.Native.Nat.{_<_, _≤_, suc, ℕ}
-use lib.Dec.{T, T-not, eqb, eqb→eq, leb, leb→le, le→leb, ltb, ltb→lt, nleb→lt, not-T}
+use lib.Dec.{T, T-not, eqb, leb, ltb, ltb→lt, not-T}
 use lib.ListN.{length, length-reverse}
 use mathlib.Core.Bool.{Bool, _&&_, _||_, cond, false, not, true}
 use mathlib.Core.List.{List, [], _∷_, reverseAux}
@@ -17,7 +17,7 @@ use Rattle.causality.specs.Evidence.{BesideRelate, ChainOf, Proves, Show
 use Rattle.causality.specs.Marks.{All, any, find, has, keep, same, tally}
 use Rattle.causality.specs.State.{Mark, State, ids, markId, precedes}
 use Rattle.causality.proofs.Lists.{Among, Lowest, absent-all, all-map, any-find, any-of, has-keep, has-self, keep-has, lowest-least}
-use Rattle.causality.proofs.Logic.{T→eq, and-fst, and-snd, bool-ext, nT→eq, or-cases, or-inl, or-inr, same-refl, same→eq, split}
+use Rattle.causality.proofs.Logic.{T→eq, and-yes, bool-ext, eqb-yes, leb-no, leb-yes, nT→eq, or-inl, or-inr, or-yes, same-refl, same→eq, split, yes-leb}
 use Rattle.causality.proofs.Past.{Standing, behind-all, counted, fresh-of, precedes-past, prefix-has, prefix-le}
 use Rattle.causality.specs.inner.Order.{Consecutive, CausallyOrdered}
 use Rattle.causality.proofs.Reach.{local, not-new, precedes-at, precedes-listed, precedes-old, sound-counted}
@@ -47,14 +47,14 @@ among-has e (f ∷ fs) (inr i) = or-inr (same e f) (has e fs) (among-has e fs i)
 
 all-has : (P : MarkId → Type 0) (es : List MarkId) → All P es → (e : MarkId) → T (has e es) → P e
 all-has P [] a e t = absurd t
-all-has P (f ∷ fs) a e t = elim (or-cases (same e f) (has e fs) t) [ inl q ↦ rw (same→eq e f q) (a .0) | inr q ↦ all-has P fs (a .1) e q ]
+all-has P (f ∷ fs) a e t = elim (or-yes (same e f) (has e fs) t) [ inl q ↦ rw (same→eq e f q) (a .0) | inr q ↦ all-has P fs (a .1) e q ]
 
 -- "the entry of lowest desk that is the earlier mark or follows it".
 entry-lowest : (l : List Mark) (a : MarkId) (es : List MarkId) → Lowest (λ e. e) (λ e. same a e || precedes l a e) es (entryTowards l a es)
 entry-lowest l a es = lowest-least (λ e. e) (λ e. same a e || precedes l a e) es
 
 listed-old : (m : Mark) (older : List Mark) (b : MarkId) → T (has b (ids (m ∷ older))) → T (not (same b (m .id))) → T (has b (ids older))
-listed-old m older b t n = elim (or-cases (same b (m .id)) (has b (ids older)) t) [ inl u ↦ absurd (T-not (same b (m .id)) n u) | inr u ↦ u ]
+listed-old m older b t n = elim (or-yes (same b (m .id)) (has b (ids older)) t) [ inl u ↦ absurd (T-not (same b (m .id)) n u) | inr u ↦ u ]
 
 module _ (entries : MarkId → List MarkId) (before : MarkId → MarkId → Bool) where
   abbrev Back : MarkId → MarkId → List MarkId → Type 0
@@ -81,7 +81,7 @@ module _ (entries : MarkId → List MarkId) (before : MarkId → MarkId → Bool
           → Back a b (b ∷ elim o [ none ↦ [] | some e ↦ goingBack older a e ])
       step none k q ih = (
         refl,
-        elim (or-cases (same a b) (before a b) t) [
+        elim (or-yes (same a b) (before a b) t) [
           | inl u ↦ sym (same→eq a b u)
           | inr u ↦ let r = any-find (λ e. same a e || precedes older a e) (m .stamp) (rw (at-b a q) u) in absurd (all-has _ (m .stamp) k (r .0) (r .1) (r .2))
         ],
@@ -127,7 +127,7 @@ back-same (m ∷ older) s a t = go (split (same a (m .id))) (back-same older (s 
     last none k q = refl
     last (some e) k q =
         let h = s .0 .listed e (among-has e (m .stamp) (k .0)) in
-        let old : T (has a (ids older)) = elim (or-cases (same a e) (precedes older a e) (k .1)) [
+        let old : T (has a (ids older)) = elim (or-yes (same a e) (precedes older a e) (k .1)) [
           | inl u ↦ rw (same→eq a e u) h
           | inr u ↦ precedes-listed older (s .1) a e u .0
         ] in
@@ -200,7 +200,7 @@ relate-case st a b = go (isExecuted st a && isExecuted st b) refl (same a b) ref
     l = st .executed
 
     both : T (isExecuted st a && isExecuted st b) → (r : Relation) → Means l a b r → Case l a b (gives r)
-    both t r m = (and-fst (isExecuted st a) (isExecuted st b) t, and-snd (isExecuted st a) (isExecuted st b) t, m)
+    both t r m = (and-yes (isExecuted st a) (isExecuted st b) t .0, and-yes (isExecuted st a) (isExecuted st b) t .1, m)
 
     go : (t : Bool) → (isExecuted st a && isExecuted st b) ≡ t → (s : Bool) → same a b ≡ s → (p : Bool) → precedes l a b ≡ p → (q : Bool) → precedes l b a ≡ q
         → Case l a b (refuseIf (not t) 12 (gives (elim s [ true ↦ Same | false ↦ elim p [ true ↦ Before | false ↦ elim q [ true ↦ After | false ↦ Concurrent ] ] ])))
@@ -215,7 +215,7 @@ relate-case st a b = go (isExecuted st a && isExecuted st b) refl (same a b) ref
 pub tally-keep : (d : ℕ) (p : MarkId → Bool) (is : List MarkId) → ((i : MarkId) → T (has i is) → d ≡ i .desk → T (p i)) → tally d (keep p is) ≡ tally d is
 tally-keep d p [] f = refl
 tally-keep d p (i ∷ is) f =
-    go (eqb d (i .desk)) (p i) refl (λ t. f i (has-self i is) (eqb→eq d (i .desk) t)) (tally-keep d p is (λ j t. f j (or-inr (same j i) (has j is) t)))
+    go (eqb d (i .desk)) (p i) refl (λ t. f i (has-self i is) (eqb-yes t)) (tally-keep d p is (λ j t. f j (or-inr (same j i) (has j is) t)))
   where
     go : (t c : Bool) → eqb d (i .desk) ≡ t → (T t → T c) → tally d (keep p is) ≡ tally d is
         → tally d (cond c (i ∷ keep p is) (keep p is)) ≡ elim t [ true ↦ suc (tally d is) | false ↦ tally d is ]
@@ -241,8 +241,8 @@ keep-counted p (x ∷ xs) c f = go (p x) refl (keep-counted p xs (c .1) f)
 pub told-by-count : (l : List Mark) → CausallyOrdered l → (i b : MarkId) → T (has i (ids l)) → precedes l i b ≡ leb (i .number) (inPast l (i .desk) b)
 unfolding inPast
 told-by-count l s i b t = bool-ext (precedes l i b) (leb (i .number) (inPast l (i .desk) b))
-    (λ u. le→leb (i .number) (inPast l (i .desk) b) (prefix-le (keep p (ids l)) k i (has-keep p (ids l) i t u) .1))
-    (λ u. keep-has p (ids l) i (prefix-has (keep p (ids l)) k i (prefix-le (ids l) c i t .0) (leb→le (i .number) (inPast l (i .desk) b) u)) .1)
+    (λ u. yes-leb (prefix-le (keep p (ids l)) k i (has-keep p (ids l) i t u) .1))
+    (λ u. keep-has p (ids l) i (prefix-has (keep p (ids l)) k i (prefix-le (ids l) c i t .0) (leb-yes u)) .1)
   where
     p : MarkId → Bool
     p i = precedes l i b
@@ -255,7 +255,7 @@ told-by-count l s i b t = bool-ext (precedes l i b) (leb (i .number) (inPast l (
 
 -- "below the marks' own numbers".
 in-past-below : (l : List Mark) → CausallyOrdered l → (a b : MarkId) → T (has a (ids l)) → T (not (precedes l a b)) → inPast l (a .desk) b < a .number
-in-past-below l s a b t n = nleb→lt (a .number) (inPast l (a .desk) b) (rw (told-by-count l s a b t) at n)
+in-past-below l s a b t n = leb-no (rw (told-by-count l s a b t) at n)
 
 -- Of two concurrent marks both counts.
 pub counts-below : (st : State) → CausallyOrdered (st .executed) → (a b : MarkId) → relate st a b ≡ gives Concurrent

@@ -1,7 +1,7 @@
 -- Marks that a frame can carry: what conditions 4 to 6 ask of a mark, as facts, and that such a mark is written and read back. Assumes nothing.
 use Prim.Native.Nat.{_%_, _*_, _+_, _/_, _<_, _≤_, ℕ}
 use borrow.Author.Tests.{eq-eqb, eqb-true, le-ltb, leb-false, leb-true, lt-leb, not-false}
-use lib.Dec.{T, eqb, eqb→eq, leb, ltb}
+use lib.Dec.{T, eqb, leb, ltb}
 use lib.ListN.{drop, length, length-drop, take}
 use lib.Seq.{getD-drop, take-at}
 use mathlib.Core.Bool.{Bool, _&&_, _||_, false, not, true}
@@ -22,7 +22,7 @@ use Rattle.causality.specs.Calls.{fieldsOfMark, frameOfMark, markIn, sam
 use Rattle.causality.specs.Marks.{has, same}
 use Rattle.causality.specs.State.{Mark, sameCount}
 use Rattle.causality.proofs.Lists.{has-self}
-use Rattle.causality.proofs.Logic.{T→eq, and-fst, and-snd, and-true, or-cases, or-inr, same-refl, same→eq}
+use Rattle.causality.proofs.Logic.{T→eq, and-true, and-yes, eqb-yes, or-inr, or-yes, same-refl, same→eq}
 use Rattle.causality.specs.inner.Order.{Strict}
 use Rattle.causality.specs.inner.Fit.{Fit, Range}
 
@@ -92,9 +92,9 @@ module _ (N : ℕ) where
       go : EntriesGood desk number (x .desk) xs → EntriesGood desk number last (x ∷ xs)
       go r = record {
         strict = (r .above, r .strict);
-        above = λ e t. elim (or-cases (same e x) (has e xs) t) [ inl q ↦ rw (same→eq e x q) up | inr q ↦ let a = r .above e q in let b = up in omega arith ];
-        range = λ e t. elim (or-cases (same e x) (has e xs) t) [ inl q ↦ rw (same→eq e x q) (range-of x (not-false _ (p1 .0)) (not-false _ (p2 .0))) | inr q ↦ r .range e q ];
-        earlier = λ e t. elim (or-cases (same e x) (has e xs) t) [ inl q ↦ rw (same→eq e x q) mine | inr q ↦ r .earlier e q ];
+        above = λ e t. elim (or-yes (same e x) (has e xs) t) [ inl q ↦ rw (same→eq e x q) up | inr q ↦ let a = r .above e q in let b = up in omega arith ];
+        range = λ e t. elim (or-yes (same e x) (has e xs) t) [ inl q ↦ rw (same→eq e x q) (range-of x (not-false _ (p1 .0)) (not-false _ (p2 .0))) | inr q ↦ r .range e q ];
+        earlier = λ e t. elim (or-yes (same e x) (has e xs) t) [ inl q ↦ rw (same→eq e x q) mine | inr q ↦ r .earlier e q ];
       }
 
   entries-test : (desk number last : ℕ) (es : List MarkId) → EntriesGood desk number last es → entriesBad N desk number last es ≡ false
@@ -217,10 +217,10 @@ same-box a b t =
     let e : Bool = eqb (a .end) (b .end) in
     let l : Bool = eqb (a .low) (b .low) in
     let h : Bool = eqb (a .high) (b .high) in
-    let p : a .start ≡ b .start = eqb→eq (a .start) (b .start) (and-fst s (e && (l && h)) t) in
-    let q : a .end ≡ b .end = eqb→eq (a .end) (b .end) (and-fst e (l && h) (and-snd s (e && (l && h)) t)) in
-    let u : a .low ≡ b .low = eqb→eq (a .low) (b .low) (and-fst l h (and-snd e (l && h) (and-snd s (e && (l && h)) t))) in
-    let v : a .high ≡ b .high = eqb→eq (a .high) (b .high) (and-snd l h (and-snd e (l && h) (and-snd s (e && (l && h)) t))) in
+    let p : a .start ≡ b .start = eqb-yes (and-yes s (e && (l && h)) t .0) in
+    let q : a .end ≡ b .end = eqb-yes (and-yes e (l && h) (and-yes s (e && (l && h)) t .1) .0) in
+    let u : a .low ≡ b .low = eqb-yes (and-yes l h (and-yes e (l && h) (and-yes s (e && (l && h)) t .1) .1) .0) in
+    let v : a .high ≡ b .high = eqb-yes (and-yes l h (and-yes e (l && h) (and-yes s (e && (l && h)) t .1) .1) .1) in
     λ i. record { start = p i; end = q i; low = u i; high = v i }
 
 box-same : (a : MarkBox) → sameBox a a ≡ true
@@ -231,8 +231,8 @@ same-entries [] [] t = refl
 same-entries [] (f ∷ fs) t = absurd t
 same-entries (e ∷ es) [] t = absurd t
 same-entries (e ∷ es) (f ∷ fs) t =
-    let p : e ≡ f = same→eq e f (and-fst (same e f) (sameEntries es fs) t) in
-    let q : es ≡ fs = same-entries es fs (and-snd (same e f) (sameEntries es fs) t) in
+    let p : e ≡ f = same→eq e f (and-yes (same e f) (sameEntries es fs) t .0) in
+    let q : es ≡ fs = same-entries es fs (and-yes (same e f) (sameEntries es fs) t .1) in
     λ i. p i ∷ q i
 
 pub entries-same : (es : List MarkId) → sameEntries es es ≡ true
@@ -246,9 +246,9 @@ same-fields h m t =
     let a : Bool = sameBox (h .extent) (m .extent) in
     let b : Bool = sameEntries (h .stamp) (m .stamp) in
     let c : Bool = sameCount (h .past) (m .past) in (
-      same-box (h .extent) (m .extent) (and-fst a (b && c) t),
-      same-entries (h .stamp) (m .stamp) (and-fst b c (and-snd a (b && c) t)),
-      and-snd b c (and-snd a (b && c) t),
+      same-box (h .extent) (m .extent) (and-yes a (b && c) t .0),
+      same-entries (h .stamp) (m .stamp) (and-yes b c (and-yes a (b && c) t .1) .0),
+      and-yes b c (and-yes a (b && c) t .1) .1,
     )
 
 pub fields-same : (h m : Mark) → h .extent ≡ m .extent → h .stamp ≡ m .stamp → T (sameCount (h .past) (m .past)) → sameFields h m ≡ true

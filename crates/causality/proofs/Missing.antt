@@ -1,7 +1,7 @@
 -- How much a mark is short of: it is ready if no mark is missing. Assumes nothing.
 use Prim.Native.Nat.{_+_, _<_, suc, ℕ}
 use borrow.Author.Tests.{eq-eqb, eqb-false, ne-eqb}
-use lib.Dec.{T, T-not, eqb, eqb→eq, leb, leb→le, ltb, lt→ltb, ltb→lt, nleb→lt, not-T}
+use lib.Dec.{T, T-not, eqb, leb, leb→le, ltb, lt→ltb, ltb→lt, not-T}
 use lib.ListN.{length}
 use mathlib.Core.Bool.{Bool, _&&_, _||_, cond, false, not, true}
 use mathlib.Core.List.{List, [], _∷_}
@@ -12,7 +12,7 @@ use Rattle.frame.specs.Names.{MarkId}
 use Rattle.causality.specs.Marks.{all, has, keep}
 use Rattle.causality.specs.State.{Mark, ids, lacksPrevious, missing, missingEntries, previous, ready}
 use Rattle.causality.proofs.Lists.{all-at}
-use Rattle.causality.proofs.Logic.{T→eq, and-fst, and-intro, and-snd, bool-ext, eq→T, nT→eq, or-cases, or-inl, or-inr, split}
+use Rattle.causality.proofs.Logic.{T→eq, and-yes, bool-ext, eqb-yes, eq→T, leb-no, nT→eq, or-inl, or-inr, or-yes, split, yes-and}
 
 -- All pass where none that fails is kept.
 none-fail : (p : MarkId → Bool) (xs : List MarkId) → all p xs ≡ eqb (length (keep (λ x. not (p x)) xs)) 0
@@ -53,26 +53,26 @@ ready-missing l m = bool-ext (a && b) (eqb (n + cond q 1 0) 0) there back
 
     there : T (a && b) → T (eqb (n + cond q 1 0) 0)
     there t =
-        let z : n ≡ 0 = eqb→eq n 0 (rw none-fail at (and-fst a b t)) in
-        let f : q ≡ false = nT→eq q (not-T q (λ u. elim (or-cases (leb (m .id .number) 1) (p pr) (and-snd a b t)) [
-          | inl v ↦ let x = leb→le (m .id .number) 1 v in let y = ltb→lt 1 (m .id .number) (and-fst (ltb 1 (m .id .number)) neither u) in omega arith
-          | inr v ↦ T-not (p pr) (and-fst (not (p pr)) (not (has pr (m .stamp))) (and-snd (ltb 1 (m .id .number)) neither u)) v
+        let z : n ≡ 0 = eqb-yes (rw none-fail at (and-yes a b t .0)) in
+        let f : q ≡ false = nT→eq q (not-T q (λ u. elim (or-yes (leb (m .id .number) 1) (p pr) (and-yes a b t .1)) [
+          | inl v ↦ let x = leb→le (m .id .number) 1 v in let y = ltb→lt 1 (m .id .number) (and-yes (ltb 1 (m .id .number)) neither u .0) in omega arith
+          | inr v ↦ T-not (p pr) (and-yes (not (p pr)) (not (has pr (m .stamp))) (and-yes (ltb 1 (m .id .number)) neither u .1) .0) v
         ])) in
         eq→T (eqb (n + cond q 1 0) 0) (eq-eqb (n + cond q 1 0) 0 (rw f (omega arith)))
 
     back : T (eqb (n + cond q 1 0) 0) → T (a && b)
     back t =
-        let s : n + cond q 1 0 ≡ 0 = eqb→eq (n + cond q 1 0) 0 t in
+        let s : n + cond q 1 0 ≡ 0 = eqb-yes t in
         let u : T a = rw none-fail (eq→T (eqb n 0) (eq-eqb n 0 (omega arith))) in
-        and-intro a b u (elim (split (leb (m .id .number) 1)) [
+        yes-and a b u (elim (split (leb (m .id .number) 1)) [
           | inl v ↦ or-inl (leb (m .id .number) 1) (p pr) v
           | inr v ↦ or-inr (leb (m .id .number) 1) (p pr) (elim (split (p pr)) [
             | inl w ↦ w
             | inr w ↦ elim (split (has pr (m .stamp))) [
               | inl x ↦ all-at p (m .stamp) u pr x
               | inr x ↦
-                  let k = lt→ltb 1 (m .id .number) (nleb→lt (m .id .number) 1 v) in
-                  let y : q ≡ true = T→eq q (and-intro (ltb 1 (m .id .number)) neither k (and-intro (not (p pr)) (not (has pr (m .stamp))) w x)) in
+                  let k = lt→ltb 1 (m .id .number) (leb-no v) in
+                  let y : q ≡ true = T→eq q (yes-and (ltb 1 (m .id .number)) neither k (yes-and (not (p pr)) (not (has pr (m .stamp))) w x)) in
                   let z : n + 1 ≡ 0 = rw y at s in
                   let c : ⊥ = omega arith in
                   absurd c

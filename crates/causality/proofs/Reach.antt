@@ -1,6 +1,6 @@
 -- Any desk from New, Mark and Receive, whatever frames it was lent.
 use Prim.Native.Nat.{_-_, _≤_, suc, ℕ}
-use lib.Dec.{T, T-not, eqb, eqb-refl, leb, ltb, lt→ltb, nltb→le, not-T}
+use lib.Dec.{T, T-not, eqb, eqb-refl, leb, ltb, not-T}
 use lib.ListN.{length}
 use mathlib.Core.Bool.{Bool, _&&_, _||_, false, not, true}
 use mathlib.Core.List.{List, [], _++_, _∷_}
@@ -19,7 +19,7 @@ use Rattle.causality.specs.Marks.{All, all, any, has, keep, same, tally}
 use Rattle.causality.specs.State.{Mark, State, falseEntries, falseStamp, heads, ids, markId, precedes, previous, ready, reckoned, reckoning, sameCount}
 use Rattle.causality.proofs.Cases.{Arrives, JudgeCase, judge-case, to-execute, to-know, to-refuse, to-wait}
 use Rattle.causality.proofs.Lists.{absent-all, all-at, all-map, any-cong, any-find, any-of, find-has, has-append, has-keep, has-self, map-append, ids-length, keep-has, lowest-picked, nor-fst, nor-snd, without-all}
-use Rattle.causality.proofs.Logic.{T→eq, and-fst, and-intro, bool-ext, nT→eq, or-cases, or-inl, or-inr, same-refl, same→eq, split}
+use Rattle.causality.proofs.Logic.{T→eq, and-yes, bool-ext, ltb-no, nT→eq, or-inl, or-inr, or-yes, same-refl, same→eq, split, yes-and, yes-ltb}
 use Rattle.causality.proofs.Numbers.{ready-next}
 use Rattle.causality.proofs.Past.{Good, Standing, fresh-of, has-heads, head-in, head-out, heads-has, no-self, prefix-has, top-exists}
 use Rattle.causality.specs.inner.Order.{Consecutive, Follows, CausallyOrdered}
@@ -50,7 +50,7 @@ precedes-listed (m ∷ older) s a b t = go (split (same b (m .id))) (precedes-li
     go : T (same b (m .id)) ⊎ T (not (same b (m .id))) → ((b : MarkId) → T (precedes older a b) → T (has a (ids older)) × T (has b (ids older))) → T (has a (ids (m ∷ older))) × T (has b (ids (m ∷ older)))
     go (inl u) ih =
         let r = any-find (λ e. same a e || precedes older a e) (m .stamp) (rw (precedes-at m older a b u) at t) in (
-          elim (or-cases (same a (r .0)) (precedes older a (r .0)) (r .2)) [
+          elim (or-yes (same a (r .0)) (precedes older a (r .0)) (r .2)) [
             | inl e ↦ up a (rw (same→eq a (r .0) e) (s .0 .listed (r .0) (r .1)))
             | inr n ↦ up a ((ih (r .0) n) .0)
           ],
@@ -68,7 +68,7 @@ precedes-trans (m ∷ older) s a b c p q = go (split (same c (m .id))) (precedes
     go : T (same c (m .id)) ⊎ T (not (same c (m .id))) → ((c : MarkId) → T (precedes older a b) → T (precedes older b c) → T (precedes older a c)) → T (precedes (m ∷ older) a c)
     go (inl u) ih =
         let r = any-find (λ e. same b e || precedes older b e) (m .stamp) (rw (precedes-at m older b c u) at q) in
-        let k : T (precedes older a (r .0)) = elim (or-cases (same b (r .0)) (precedes older b (r .0)) (r .2)) [
+        let k : T (precedes older a (r .0)) = elim (or-yes (same b (r .0)) (precedes older b (r .0)) (r .2)) [
           | inl e ↦ rw (same→eq b (r .0) e) at (down (rw (same→eq b (r .0) e) (s .0 .listed (r .0) (r .1))))
           | inr n ↦ ih (r .0) (down ((precedes-listed older (s .1) b (r .0) n) .0)) n
         ] in
@@ -95,7 +95,7 @@ sound-hist past (m ∷ older) s ag = (record { good = good; next = f .next; behi
     behind : (a : MarkId) → T (has a (past (m .id))) → T (has a (ids older))
     behind a t =
         let r = any-find (λ e. same a e || precedes older a e) (m .stamp) (rw (new a) at t) in
-        elim (or-cases (same a (r .0)) (precedes older a (r .0)) (r .2)) [
+        elim (or-yes (same a (r .0)) (precedes older a (r .0)) (r .2)) [
           | inl e ↦ rw (same→eq a (r .0) e) (f .listed (r .0) (r .1))
           | inr n ↦ (precedes-listed older (s .1) a (r .0) n) .0
         ]
@@ -104,7 +104,7 @@ sound-hist past (m ∷ older) s ag = (record { good = good; next = f .next; behi
     last e j te tj u =
         let r = any-find (λ g. same j g || precedes older j g) (m .stamp) (rw (new j) at tj) in
         let b : T (precedes older e j) = rw (ag′ e j (behind j tj)) at u in
-        elim (or-cases (same j (r .0)) (precedes older j (r .0)) (r .2)) [
+        elim (or-yes (same j (r .0)) (precedes older j (r .0)) (r .2)) [
           | inl q ↦ f .clear e (r .0) te (r .1) (rw (same→eq j (r .0) q) at b)
           | inr n ↦ f .clear e (r .0) te (r .1) (precedes-trans older (s .1) e j (r .0) b n)
         ]
@@ -187,7 +187,7 @@ new-after d box s a = rw (T→eq (same i i) (same-refl i), precedes) (there, bac
     there : T (any (λ e. same a e || precedes l a e) (heads l)) → T (has a (ids l))
     there t =
         let r = any-find (λ e. same a e || precedes l a e) (heads l) t in
-        elim (or-cases (same a (r .0)) (precedes l a (r .0)) (r .2)) [
+        elim (or-yes (same a (r .0)) (precedes l a (r .0)) (r .2)) [
           | inl e ↦ rw (same→eq a (r .0) e) ((heads-has (local l) l (r .0) (r .1)) .0)
           | inr n ↦ (precedes-listed l s a (r .0) n) .0
         ]
@@ -236,9 +236,9 @@ pub follows-of : (l : List Mark) (m : Mark) → CausallyOrdered l → 1 ≤ m .i
 unfolding ready falseStamp falseEntries reckoning
 follows-of l m s p n t e = record {
   next = ready-next l m (sound-counted l s) p n t;
-  listed = all-at (λ e. has e (ids l)) (m .stamp) (and-fst (all (λ e. has e (ids l)) (m .stamp)) (leb (m .id .number) 1 || has (previous (m .id)) (ids l)) t);
+  listed = all-at (λ e. has e (ids l)) (m .stamp) (and-yes (all (λ e. has e (ids l)) (m .stamp)) (leb (m .id .number) 1 || has (previous (m .id)) (ids l)) t .0);
   clear = λ a b ta tb u. T-not one (nor-fst one two no-false) (any-of (λ e. any (λ f. precedes l e f) (m .stamp)) (m .stamp) a ta (any-of (λ f. precedes l a f) (m .stamp) b tb u));
-  prev = λ q. elim (split pr) [ inl x ↦ x | inr x ↦ absurd (T-not two (nor-snd one two no-false) (and-intro (ltb 1 (m .id .number)) (not pr) (lt→ltb 1 (m .id .number) q) x)) ];
+  prev = λ q. elim (split pr) [ inl x ↦ x | inr x ↦ absurd (T-not two (nor-snd one two no-false) (yes-and (ltb 1 (m .id .number)) (not pr) (yes-ltb q) x)) ];
   count = refl;
 }
   where
@@ -271,7 +271,7 @@ module _ (own : ℕ) where
   grown l ws w f s a = record { sound = (f, s); wait = all-map (λ v x. record { pos = x .0 .pos; fresh = other v x; away = x .0 .away; asks = λ e te q. or-inr (same e (w .id)) (has e (ids l)) (x .0 .asks e te q) }) ws a }
     where
       other : (v : Mark) → Wait l v × T (not (same (w .id) (v .id))) → T (not (has (v .id) (w .id ∷ ids l)))
-      other v x = not-T (has (v .id) (w .id ∷ ids l)) (λ u. elim (or-cases (same (v .id) (w .id)) (has (v .id) (ids l)) u) [
+      other v x = not-T (has (v .id) (w .id ∷ ids l)) (λ u. elim (or-yes (same (v .id) (w .id)) (has (v .id) (ids l)) u) [
         | inl e ↦ T-not (same (w .id) (v .id)) (x .1) (rw (same→eq (v .id) (w .id) e) (same-refl (w .id)))
         | inr n ↦ T-not (has (v .id) (ids l)) (x .0 .fresh) n
       ])
@@ -318,8 +318,8 @@ receive-reach d m p pe r = go (judge-case rules d m)
 
     made : (i : MarkId) → 1 ≤ i .number → T (not (unmade d i)) → i .desk ≡ d .own → T (has i (ids (d .executed)))
     made i pi n q = elim (split (ltb (tally (d .own) (ids (d .executed))) (i .number))) [
-      | inl x ↦ absurd (T-not (unmade d i) n (and-intro (eqb (i .desk) (d .own)) (ltb (tally (d .own) (ids (d .executed))) (i .number)) (subst (λ (k : ℕ). T (eqb (i .desk) k)) q (eqb-refl (i .desk))) x))
-      | inr x ↦ prefix-has (ids (d .executed)) (sound-counted (d .executed) (r .sound)) i pi (subst (λ (k : ℕ). i .number ≤ tally k (ids (d .executed))) (sym q) (nltb→le (tally (d .own) (ids (d .executed))) (i .number) x))
+      | inl x ↦ absurd (T-not (unmade d i) n (yes-and (eqb (i .desk) (d .own)) (ltb (tally (d .own) (ids (d .executed))) (i .number)) (subst (λ (k : ℕ). T (eqb (i .desk) k)) q (eqb-refl (i .desk))) x))
+      | inr x ↦ prefix-has (ids (d .executed)) (sound-counted (d .executed) (r .sound)) i pi (subst (λ (k : ℕ). i .number ≤ tally k (ids (d .executed))) (sym q) (ltb-no x))
     ]
 
     wait : Arrives rules d m → Wait (d .own) (d .executed) m

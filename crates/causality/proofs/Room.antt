@@ -17,7 +17,7 @@ use Rattle.causality.specs.Marks.{All, all, has, places, same, waitingPl
 use Rattle.causality.specs.State.{Mark, State, ids, previous, ready, reckoned}
 use Rattle.causality.proofs.Cases.{JudgeCase, judge-case, mark-gives, to-execute, to-know, to-refuse, to-wait}
 use Rattle.causality.proofs.Lists.{all-at, all-intro}
-use Rattle.causality.proofs.Logic.{and-fst, and-intro, and-snd, or-cases, or-inl, or-inr, same→eq}
+use Rattle.causality.proofs.Logic.{and-yes, or-inl, or-inr, or-yes, same→eq, yes-and}
 use Rattle.causality.proofs.Past.{prefix-le}
 use Rattle.causality.proofs.Reach.{ReachState, Wait, sound-counted}
 use Rattle.causality.proofs.Releases.{release-room, release-quiet}
@@ -67,15 +67,15 @@ mark-still N d box out re r = go (markAnswer N d box (length out)) refl
     absent t = let p = (prefix-le (ids l) (sound-counted l (re .sound)) i t) .1 in omega arith
 
     old : (e : MarkId) → (e .desk ≡ d .own → T (has e (ids l))) → T (has e (i ∷ ids l)) → T (has e (ids l))
-    old e f t = elim (or-cases (same e i) (has e (ids l)) t) [ inl q ↦ f (ap (λ (k : MarkId). k .desk) (same→eq e i q)) | inr q ↦ q ]
+    old e f t = elim (or-yes (same e i) (has e (ids l)) t) [ inl q ↦ f (ap (λ (k : MarkId). k .desk) (same→eq e i q)) | inr q ↦ q ]
 
     still-not : (w : Mark) → Wait (d .own) l w × T (not (ready l w)) → T (not (ready (newMark d box ∷ l) w))
     still-not w x = not-T (ready (newMark d box ∷ l) w) (λ t. T-not (ready l w) (x .1)
         (let a : Bool = all (λ e. has e (ids (newMark d box ∷ l))) (w .stamp) in
         let b : Bool = leb (w .id .number) 1 || has (previous (w .id)) (ids (newMark d box ∷ l)) in
-        and-intro (all (λ e. has e (ids l)) (w .stamp)) (leb (w .id .number) 1 || has (previous (w .id)) (ids l))
-        (all-intro (λ e. has e (ids l)) (w .stamp) (λ e te. old e (x .0 .asks e te) (all-at (λ e. has e (ids (newMark d box ∷ l))) (w .stamp) (and-fst a b t) e te)))
-        (elim (or-cases (leb (w .id .number) 1) (has (previous (w .id)) (ids (newMark d box ∷ l))) (and-snd a b t)) [
+        yes-and (all (λ e. has e (ids l)) (w .stamp)) (leb (w .id .number) 1 || has (previous (w .id)) (ids l))
+        (all-intro (λ e. has e (ids l)) (w .stamp) (λ e te. old e (x .0 .asks e te) (all-at (λ e. has e (ids (newMark d box ∷ l))) (w .stamp) (and-yes a b t .0) e te)))
+        (elim (or-yes (leb (w .id .number) 1) (has (previous (w .id)) (ids (newMark d box ∷ l))) (and-yes a b t .1)) [
           | inl q ↦ or-inl (leb (w .id .number) 1) (has (previous (w .id)) (ids l)) q
           | inr q ↦ or-inr (leb (w .id .number) 1) (has (previous (w .id)) (ids l)) (old (previous (w .id)) (λ z. absurd (x .0 .away z)) q)
         ])))

@@ -1,6 +1,6 @@
 -- The reckoning by rows: it is the sum of the row that a mark's entries reach, and that row is final as soon as it covers the tally. Assumes nothing.
 use Prim.Native.Nat.{_≤_, max, min, suc, ℕ}
-use lib.Dec.{T, T-not, eqb, eqb-refl, eqb→eq, leb, leb→le, le→leb, nleb→lt, not-T}
+use lib.Dec.{T, T-not, eqb, eqb-refl, leb, leb→le, le→leb, nleb→lt, not-T}
 use lib.ListN.{length}
 use mathlib.Core.Bool.{Bool, cond, false, not, true}
 use mathlib.Core.List.{List, [], _∷_}
@@ -12,7 +12,7 @@ use Rattle.causality.specs.Marks.{has, keep, same, tally}
 use Rattle.causality.specs.State.{Mark, ids, precedes, reckoning}
 use Rattle.causality.proofs.Apart.{past-counts}
 use Rattle.causality.proofs.Lists.{has-self, keep-cong}
-use Rattle.causality.proofs.Logic.{nT→eq, or-inr, split}
+use Rattle.causality.proofs.Logic.{eqb-yes, nT→eq, or-inr, split}
 use Rattle.causality.proofs.Past.{prefix-le, tally-same}
 use Rattle.causality.specs.inner.Order.{Consecutive, CausallyOrdered}
 use Rattle.causality.proofs.Reach.{local-hist, local-precedes, precedes-self, sound-counted}
@@ -24,7 +24,7 @@ pub tally-other : (d : ℕ) (i : MarkId) (is : List MarkId) → (d ≡ i .desk �
 tally-other d i is n = go (eqb d (i .desk)) refl
   where
     go : (b : Bool) → eqb d (i .desk) ≡ b → elim b [ true ↦ suc (tally d is) | false ↦ tally d is ] ≡ tally d is
-    go true e = absurd (n (eqb→eq d (i .desk) (rw e tt)))
+    go true e = absurd (n (eqb-yes (rw e tt)))
     go false e = refl
 
 -- How many of the marks a row covers.
@@ -62,7 +62,7 @@ sum-counts n r (i ∷ is) c f = go (leb (i .number) (r (i .desk))) refl (sum-cou
         let y = at in
         let o : new (i .desk) ≡ old (i .desk) = omega arith in
         ih ∙ sum-cong n old new (λ d p q. elim (split (eqb d (i .desk))) [
-          | inl t ↦ subst (λ (v : ℕ). old v ≡ new v) (sym (eqb→eq d (i .desk) t)) (sym o)
+          | inl t ↦ subst (λ (v : ℕ). old v ≡ new v) (sym (eqb-yes t)) (sym o)
           | inr t ↦ sym (same-else d (λ z. T-not (eqb d (i .desk)) t (rw z (eqb-refl (i .desk)))))
         ])
 

@@ -1,7 +1,7 @@
 -- What desk and plain machine share, each pinned by a law: demand 3 compares the two, and cannot see what both would get wrong alike. Of `lowest` it is
 -- `lowest-least` in Lists.antt. Assumes nothing.
 use Prim.Native.Nat.{_+_, _<_, _≤_, suc, ℕ}
-use lib.Dec.{T, eqb, le→leb, leb, leb→le, lt→ltb, ltb, ltb→lt, nleb→lt}
+use lib.Dec.{T, eqb, leb, leb→le, ltb, nleb→lt}
 use lib.ListN.{length}
 use mathlib.Core.Bool.{Bool, cond, false, not, true}
 use mathlib.Core.List.{List, [], _∷_}
@@ -13,7 +13,7 @@ use Rattle.frame.specs.declared.MarkBox.{MarkBox}
 use Rattle.frame.specs.Names.{MarkId, boxRule, numbers}
 use Rattle.causality.specs.Marks.{All, find, insert, keep, places, rising, same, tally, without}
 use Rattle.causality.proofs.Lists.{all-map}
-use Rattle.causality.proofs.Logic.{and-fst, and-intro, and-snd}
+use Rattle.causality.proofs.Logic.{and-yes, leb-yes, ltb-yes, yes-and, yes-leb, yes-ltb}
 
 -- places: a desk that may hold so many marks has a number for each.
 pub places-numbers : places ≤ numbers
@@ -25,8 +25,8 @@ unfolding boxRule
 box-rule b =
     let times = leb (b .start) (b .end) in
     let pitches = ltb (b .low) (b .high) in (
-      λ t. (leb→le (b .start) (b .end) (and-fst times pitches t), ltb→lt (b .low) (b .high) (and-snd times pitches t)),
-      λ p. and-intro times pitches (le→leb (b .start) (b .end) (p .0)) (lt→ltb (b .low) (b .high) (p .1)),
+      λ t. (leb-yes (and-yes times pitches t .0), ltb-yes (and-yes times pitches t .1)),
+      λ p. yes-and times pitches (yes-leb (p .0)) (yes-ltb (p .1)),
     )
 
 -- tally: how many of the names are of desk d.

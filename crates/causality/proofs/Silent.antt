@@ -1,6 +1,6 @@
 -- Order 6 at one desk, whatever bytes it was lent: what is executed stays, with its past, so a mark that follows all of a desk goes on doing so. Assumes nothing.
 use Prim.Native.Nat.{_≤_, ℕ}
-use lib.Dec.{T, T-not, eqb, eqb→eq, not-T}
+use lib.Dec.{T, T-not, eqb, not-T}
 use lib.ListN.{length}
 use mathlib.Core.Bool.{not}
 use mathlib.Core.List.{List, _∷_}
@@ -17,7 +17,7 @@ use Rattle.causality.specs.State.{Mark, State, heads, ids, isHead, prece
 use Rattle.causality.proofs.Cases.{JudgeCase, received-case, to-execute, to-know, to-refuse, to-wait}
 use Rattle.causality.proofs.Invariant.{kept}
 use Rattle.causality.proofs.Lists.{any-find, any-of}
-use Rattle.causality.proofs.Logic.{or-inr}
+use Rattle.causality.proofs.Logic.{eqb-yes, or-inr}
 use Rattle.causality.proofs.Past.{heads-has}
 use Rattle.causality.proofs.Reach.{local, not-new, precedes-old}
 use Rattle.causality.specs.inner.Order.{CausallyOrdered}
@@ -36,7 +36,7 @@ silent-leaves st d m f = record { head = none-of; stamp = λ b. none-of }
     none-of = not-T (names d (heads l)) (λ t.
         let r = any-find (λ e. eqb (e .desk) d) (heads l) t in
         let h = heads-has (local l) l (r .0) (r .1) in
-        T-not (any (λ k. precedes l (r .0) k) (ids l)) (h .1) (any-of (λ k. precedes l (r .0) k) (ids l) m (f .listed) (f .every (r .0) (h .0) (eqb→eq (r .0 .desk) d (r .2)))))
+        T-not (any (λ k. precedes l (r .0) k) (ids l)) (h .1) (any-of (λ k. precedes l (r .0) k) (ids l) m (f .listed) (f .every (r .0) (h .0) (eqb-yes (r .2)))))
 
 -- WHAT IS EXECUTED STAYS
 

@@ -1,6 +1,6 @@
 -- Tables as lists, one row behind another: where an entry stands, and that the entries settle the list. Assumes nothing.
 use Prim.Native.Nat.{_*_, _+_, _-_, _<_, _≤_, suc, zero, ℕ}
-use lib.Dec.{ltb, ltb→lt, nltb→le}
+use lib.Dec.{ltb, nltb→le}
 use lib.ListN.{List·getD-append, getD, length, length-append}
 use lib.Seq.{ext-getD, getD-append-add}
 use mathlib.Core.List.{List, _++_}
@@ -9,14 +9,14 @@ use mathlib.Core.Path.{_∙_, _≡_, ap, refl, subst, sym}
 use native.Mathlib.Nat.{mul-comm, mul-le-mul-right, suc-mul, zero-mul}
 use native.Mathlib.Omega.{arith}
 use Rattle.causality.specs.Tables.{EntriesAt, tableRow, tableRows, tableSize, tables}
-use Rattle.causality.proofs.Logic.{split}
+use Rattle.causality.proofs.Logic.{ltb-yes, split}
 
 -- Row behind row, n numbers each: the numbers of the first rows are all the numbers there.
 pub by-rows : (n count : ℕ) (xs ys : List ℕ) → ((p j : ℕ) → p < count → j < n → getD xs (p * n + j) 0 ≡ getD ys (p * n + j) 0)
     → (q : ℕ) → q < count * n → getD xs q 0 ≡ getD ys q 0
 by-rows n zero xs ys f q h = let z : ⊥ = omega (arith, zero-mul n) in absurd z
 by-rows n (suc k) xs ys f q h = elim (split (ltb q (k * n))) [
-  | inl t ↦ by-rows n k xs ys (λ p j a. f p j (omega arith)) q (ltb→lt q (k * n) t)
+  | inl t ↦ by-rows n k xs ys (λ p j a. f p j (omega arith)) q (ltb-yes t)
   | inr t ↦
       let l = nltb→le q (k * n) t in
       let e : k * n + (q - k * n) ≡ q = omega arith in

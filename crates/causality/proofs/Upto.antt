@@ -8,7 +8,7 @@ use native.Mathlib.Nat.{eq-or-lt-of-le}
 use native.Mathlib.Numerals.{add-one}
 use native.Mathlib.Omega.{arith}
 use Rattle.causality.specs.inner.Upto.{allTo, anyTo, countTo, sumTo}
-use Rattle.causality.proofs.Logic.{T→eq, and-fst, and-intro, and-snd, nT→eq, or-cases, or-inl, or-inr}
+use Rattle.causality.proofs.Logic.{T→eq, and-yes, nT→eq, or-inl, or-inr, or-yes, yes-and}
 
 -- TESTS
 
@@ -25,13 +25,13 @@ wider k p x = let h = x .high in record { d = x .d; low = x .low; high = omega a
 pub all-of : (k : ℕ) (p : ℕ → Bool) → ((d : ℕ) → 1 ≤ d → d ≤ k → T (p d)) → T (allTo k p)
 unfolding allTo
 all-of zero p f = tt
-all-of (suc k) p f = and-intro (p (suc k)) (allTo k p) (f (suc k) (omega arith) (omega arith)) (all-of k p (λ d lo hi. f d lo (omega arith)))
+all-of (suc k) p f = yes-and (p (suc k)) (allTo k p) (f (suc k) (omega arith) (omega arith)) (all-of k p (λ d lo hi. f d lo (omega arith)))
 
 pub all-desk : (k : ℕ) (p : ℕ → Bool) → T (allTo k p) → (d : ℕ) → 1 ≤ d → d ≤ k → T (p d)
 unfolding allTo
 all-desk zero p t d lo hi = let z : ⊥ = omega arith in absurd z
-all-desk (suc k) p t d lo hi = ⊎-elim (λ e. subst (λ (x : ℕ). T (p x)) (sym e) (and-fst (p (suc k)) (allTo k p) t))
-    (λ l. all-desk k p (and-snd (p (suc k)) (allTo k p) t) d lo (omega arith)) (eq-or-lt-of-le {n = d} {m = suc k} hi)
+all-desk (suc k) p t d lo hi = ⊎-elim (λ e. subst (λ (x : ℕ). T (p x)) (sym e) (and-yes (p (suc k)) (allTo k p) t .0))
+    (λ l. all-desk k p (and-yes (p (suc k)) (allTo k p) t .1) d lo (omega arith)) (eq-or-lt-of-le {n = d} {m = suc k} hi)
 
 pub any-desk : (k : ℕ) (p : ℕ → Bool) (d : ℕ) → 1 ≤ d → d ≤ k → T (p d) → T (anyTo k p)
 unfolding anyTo
@@ -42,7 +42,7 @@ any-desk (suc k) p d lo hi t = ⊎-elim (λ e. or-inl (p (suc k)) (anyTo k p) (s
 pub any-found : (k : ℕ) (p : ℕ → Bool) → T (anyTo k p) → Found k p
 unfolding anyTo
 any-found zero p t = absurd t
-any-found (suc k) p t = elim (or-cases (p (suc k)) (anyTo k p) t) [ inl u ↦ record { d = suc k; low = omega arith; high = omega arith; passes = u } | inr u ↦ wider k p (any-found k p u) ]
+any-found (suc k) p t = elim (or-yes (p (suc k)) (anyTo k p) t) [ inl u ↦ record { d = suc k; low = omega arith; high = omega arith; passes = u } | inr u ↦ wider k p (any-found k p u) ]
 
 pub any-to-cong : (k : ℕ) (p q : ℕ → Bool) → ((d : ℕ) → 1 ≤ d → d ≤ k → p d ≡ q d) → anyTo k p ≡ anyTo k q
 unfolding anyTo

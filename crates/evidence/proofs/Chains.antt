@@ -15,7 +15,7 @@ use Rattle.causality.specs.Marks.{has, same}
 use Rattle.causality.specs.State.{Mark, precedes}
 use Rattle.causality.proofs.Apart.{reaches}
 use Rattle.causality.proofs.Lists.{any-find}
-use Rattle.causality.proofs.Logic.{T→eq, and-fst, and-snd, nT→eq, or-cases, same-refl, same→eq, split}
+use Rattle.causality.proofs.Logic.{T→eq, and-yes, nT→eq, or-yes, same-refl, same→eq, split}
 use Rattle.causality.proofs.Reach.{not-new, precedes-at}
 use Rattle.causality.specs.inner.Order.{CausallyOrdered}
 use Rattle.causality.proofs.RowLaws.{show, shown}
@@ -101,7 +101,7 @@ module _ (n : ℕ) (ds ns : List ℕ) (bs : ℕ → Carried) (ss : List ℕ) whe
       -- Some entry passes, so there is a lowest.
       passing : (e : MarkId) × T (has e (entriesOfRow n row)) × T (test e)
       unfolding view
-      passing = elim (or-cases (same (name p) (name at)) (precedes (l count) (name p) (name at)) t) [
+      passing = elim (or-yes (same (name p) (name at)) (precedes (l count) (name p) (name at)) t) [
         | inl u ↦ absurd (not-before n ds ns bs ss count at at s (omega arith) (omega arith) (rw (← same→eq (name p) (name at) u) (has-at n ds ns bs ss at p hp)))
         | inr u ↦ any-find test (entriesOfRow n row)
             (rw (← precedes-at (markAt n ds ns bs ss at) (l at) (name p) (name at) (same-refl (name at)), ← precedes-there n ds ns bs ss count at s (omega arith) (name p)) u)
@@ -128,8 +128,8 @@ module _ (n : ℕ) (ds ns : List ℕ) (bs : ℕ → Carried) (ss : List ℕ) whe
           let f = getD first j 0 in
           let g = getD ss (at * n + j) 0 in
           let u : T (ltb 0 f && leb f g) = rw y tt in
-          let b = ltb→lt 0 f (and-fst (ltb 0 f) (leb f g) u) in
-          let c = leb→le f g (and-snd (ltb 0 f) (leb f g) u) in
+          let b = ltb→lt 0 f (and-yes (ltb 0 f) (leb f g) u .0) in
+          let c = leb→le f g (and-yes (ltb 0 f) (leb f g) u .1) in
           let z : 0 < g = omega arith in
           let e : j ≡ suc j - 1 = sym (sub-one (suc j)) in
           (subst (λ (k : ℕ). 0 < getD ss (at * n + k) 0) e z, subst (λ (k : ℕ). reachedAt n first ss at k ≡ true) e y)

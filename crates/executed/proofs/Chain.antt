@@ -12,7 +12,7 @@ use Rattle.frame.specs.Names.{MarkId}
 use Rattle.causality.specs.Marks.{find, has, places, same, tally}
 use Rattle.causality.specs.State.{Mark, ids, markId}
 use Rattle.causality.proofs.Lists.{find-has, isSome}
-use Rattle.causality.proofs.Logic.{T→eq, nT→eq, or-cases, same-refl, same→eq, split}
+use Rattle.causality.proofs.Logic.{T→eq, nT→eq, or-yes, same-refl, same→eq, split}
 use Rattle.causality.proofs.Past.{fresh-of, prefix-has, prefix-le, tally-same}
 use Rattle.causality.specs.inner.Order.{Consecutive, CausallyOrdered}
 use Rattle.executed.specs.inner.Rows.{Chain, Chained, Finds, Lent, PlaceOf, Rows, lastIn, placeIn}
@@ -39,7 +39,7 @@ pub place-some : (is : List MarkId) (a : MarkId) → T (has a is) → (1 ≤ pla
 place-some [] a t = absurd t
 place-some (i ∷ is) a t = elim (split (same a i)) [
   | inl s ↦ let e = place-here i is a (same→eq a i s) in (omega arith, omega arith)
-  | inr s ↦ elim (or-cases (same a i) (has a is) t) [
+  | inr s ↦ elim (or-yes (same a i) (has a is) t) [
     | inl u ↦ absurd (T-not (same a i) s u)
     | inr u ↦ let e = place-there i is a (λ q. T-not (same a i) s (subst (λ (x : MarkId). T (same a x)) q (same-refl a))) in let r = place-some is a u in (omega arith, omega arith)
   ]
@@ -81,7 +81,7 @@ chain-step d n (i ∷ is) bf c h p q = go (split (same a i)) (chain-step d n is 
         ap (λ (k : ℕ). getD bf k 0) at ∙ h .0 ∙ ap (λ (k : ℕ). lastIn k is) (sym u) ∙ last-place d is (c .1) (omega arith) ∙ ap (λ (k : ℕ). placeIn is (name d k)) w ∙ sym (place-there i is (name d n) ne)
     go (inr t) ih =
         let ne : a ≡ i → ⊥ = λ z. T-not (same a i) t (subst (λ (x : MarkId). T (same a x)) z (same-refl a)) in
-        let low : suc n ≤ tally d is = (prefix-le is (c .1) a (listed (or-cases (same a i) (has a is) (prefix-has (i ∷ is) c a (omega arith) q)))) .1 in
+        let low : suc n ≤ tally d is = (prefix-le is (c .1) a (listed (or-yes (same a i) (has a is) (prefix-has (i ∷ is) c a (omega arith) q)))) .1 in
         let old : T (has (name d n) is) = prefix-has is (c .1) (name d n) p (omega arith) in
         let ne′ : name d n ≡ i → ⊥ = λ z. fresh-of i is c (subst (λ (x : MarkId). T (has x is)) z old) in
         ap (λ (k : ℕ). getD bf (k - 1) 0) (place-there i is a ne) ∙ ih low ∙ sym (place-there i is (name d n) ne′)

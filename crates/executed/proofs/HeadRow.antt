@@ -11,7 +11,7 @@ use Rattle.causality.specs.Marks.{has, keep, same}
 use Rattle.causality.specs.State.{Mark, heads}
 use Rattle.causality.proofs.Heads.{heads-step}
 use Rattle.causality.proofs.Lists.{has-insert, has-keep, keep-has}
-use Rattle.causality.proofs.Logic.{T→eq, nT→eq, or-cases, or-inl, or-inr, same-refl, same→eq, split}
+use Rattle.causality.proofs.Logic.{T→eq, nT→eq, or-inl, or-inr, or-yes, same-refl, same→eq, split}
 use Rattle.causality.proofs.Numbers.{heads-strict}
 use Rattle.causality.specs.inner.Order.{Strict, CausallyOrdered}
 use Rattle.causality.proofs.Past.{Standing}
@@ -46,7 +46,7 @@ module _ (m : Mark) (older : List Mark) (s : CausallyOrdered (m ∷ older)) (st 
 
   -- A head of another desk was one before, and the mark does not name it.
   old : (d ≡ m .id .desk → ⊥) → (i : MarkId) → T (has i (heads (m ∷ older))) → i .desk ≡ d → T (has i (heads older)) × T (unnamed i)
-  old ne i t e = elim (or-cases (same i (m .id)) (has i (keep unnamed (heads older))) (rw (member i) at t)) [
+  old ne i t e = elim (or-yes (same i (m .id)) (has i (keep unnamed (heads older))) (rw (member i) at t)) [
     | inl q ↦ absurd (ne (sym e ∙ ap (λ (x : MarkId). x .desk) (same→eq i (m .id) q)))
     | inr n ↦ keep-has unnamed (heads older) i n
   ]

@@ -22,7 +22,7 @@ use Rattle.causality.proofs.Fit.{fit-size, markSize}
 use Rattle.causality.specs.inner.Fit.{Fit}
 use Rattle.causality.proofs.Invariant.{Invariant, new-fit}
 use Rattle.causality.proofs.Lists.{Picked, absent-all, all-append, all-map, any-cong, find-all, find-has, has-append, map-append, isSome, lowest-picked, nor-fst, nor-snd, without-all}
-use Rattle.causality.proofs.Logic.{or-cases, same-refl, same→eq}
+use Rattle.causality.proofs.Logic.{or-yes, same-refl, same→eq}
 use Rattle.causality.proofs.Past.{Good, Standing, Stands, precedes-past, ready-past, ready-stands, tally-le}
 use Rattle.causality.proofs.Reckoning.{Once, not-false-stamp, reckoned-past, stands-with}
 use Rattle.causality.proofs.Images.{lowest-image, names-image, without-image}
@@ -107,7 +107,7 @@ module _ (past : MarkId → List MarkId) where
         as-true = ap (λ (n : ℕ). withPast w (Said n)) (reckoned-past past l h w stands (c .told w (lw .k) .once))
 
         other : (m : Mark) → Unlisted l m × T (not (same (w .id) (m .id))) → T (not (has (m .id) (w .id ∷ ids l)))
-        other m p = not-T (has (m .id) (w .id ∷ ids l)) (λ u. elim (or-cases (same (m .id) (w .id)) (has (m .id) (ids l)) u) [
+        other m p = not-T (has (m .id) (w .id ∷ ids l)) (λ u. elim (or-yes (same (m .id) (w .id)) (has (m .id) (ids l)) u) [
           | inl e ↦ T-not (same (w .id) (m .id)) (p .1) (rw (same→eq (m .id) (w .id) e) (same-refl (w .id)))
           | inr n ↦ T-not (has (m .id) (ids l)) (p .0 .fresh) n
         ])

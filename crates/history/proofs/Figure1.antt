@@ -7,7 +7,7 @@ use mathlib.Core.Logic.{_↔_, inl, inr}
 use mathlib.Core.Path.{subst}
 use Rattle.frame.specs.Names.{MarkId, boxRule, desks, isDesk}
 use Rattle.causality.specs.Marks.{All, all, has, same}
-use Rattle.causality.proofs.Logic.{and-fst, and-snd, or-cases, same→eq}
+use Rattle.causality.proofs.Logic.{and-yes, or-yes, same→eq}
 use Rattle.history.specs.Paper.{Chain, IsVector, Links, PaperOver, Precedes, link, onward}
 use Rattle.history.specs.Plain.{frameSize, handOver, isLast, lastOfPast, leaveOut, listsFull, makingBy, newMade, pastListed}
 use Rattle.history.specs.Run.{Step, atDesk, handing, marking}
@@ -46,7 +46,7 @@ pub record Figure1 : Type 0 where
 
 each : (s : List Step) → T (all (atDesk desks) s) → All (λ t. T (atDesk desks t)) s
 each [] t = tt
-each (x ∷ s) t = (and-fst (atDesk desks x) (all (atDesk desks) s) t, each s (and-snd (atDesk desks x) (all (atDesk desks) s) t))
+each (x ∷ s) t = (and-yes (atDesk desks x) (all (atDesk desks) s) t .0, each s (and-yes (atDesk desks x) (all (atDesk desks) s) t .1))
 
 at : All (λ t. T (atDesk desks t)) figure
 unfolding isDesk
@@ -95,9 +95,9 @@ needed = record {
     far l = l .none-between (o 1 2) (law .definition-1 (o 1 1) (o 1 2) .1 tt) (law .definition-1 (o 1 2) (o 2 2) .1 tt)
 
     ends : (x : MarkId) → gap x → ¬ Links figure x (o 2 2)
-    ends x t l = elim (or-cases (same x (o 1 1)) (has x (o 2 2 ∷ [])) t) [
+    ends x t l = elim (or-yes (same x (o 1 1)) (has x (o 2 2 ∷ [])) t) [
       | inl e ↦ far (subst (λ (i : MarkId). Links figure i (o 2 2)) (same→eq x (o 1 1) e) l)
-      | inr n ↦ elim (or-cases (same x (o 2 2)) (has x []) n) [
+      | inr n ↦ elim (or-yes (same x (o 2 2)) (has x []) n) [
         | inl e ↦ law .definition-1 (o 2 2) (o 2 2) .0 (subst (λ (i : MarkId). Precedes figure i (o 2 2)) (same→eq x (o 2 2) e) (l .precede))
         | inr e ↦ e
       ]

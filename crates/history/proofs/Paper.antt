@@ -1,6 +1,6 @@
 -- The paper's definitions, theorem and properties hold of every sequence: from the simulation and demand 3. Assumes nothing.
 use Prim.Native.Nat.{_<_, _≤_, suc, ℕ}
-use lib.Dec.{T, T-not, eqb, eqb→eq, eqb-refl, ltb, not-T}
+use lib.Dec.{T, T-not, eqb, eqb-refl, ltb, not-T}
 use lib.ListN.{length}
 use mathlib.Core.Bool.{Bool, _&&_, _||_, false, not, true}
 use mathlib.Core.List.{List, [], _++_, _∷_, map}
@@ -17,7 +17,7 @@ use Rattle.causality.specs.Marks.{All, any, find, has, keep, same, tally}
 use Rattle.causality.specs.State.{Mark, State, concurrent, ids, markId, precedes, ready}
 use Rattle.causality.proofs.Fit.{fit-back}
 use Rattle.causality.proofs.Lists.{Picked, all-at, all-names, all-intro, all-map, any-find, any-of, find-all, find-has, has-keep, has-rising, has-self, isSome, keep-has}
-use Rattle.causality.proofs.Logic.{and-fst, and-intro, and-snd, or-cases, or-inr, same-refl, same→eq, split}
+use Rattle.causality.proofs.Logic.{and-yes, eqb-yes, or-inr, or-yes, same-refl, same→eq, split, yes-and}
 use Rattle.causality.specs.inner.Order.{Strict}
 use Rattle.causality.proofs.Past.{Good, Standing, behind-all, counted, precedes-past, prefix-has, ready-past, ready-stands}
 use Rattle.history.specs.Evidence.{happenedBefore}
@@ -97,7 +97,7 @@ moment-of (marking d box lent ∷ s) b t = go (making d ls box (length lent) .an
     go : (a : Answer Numbered) → making d ls box (length lent) .answer ≡ a → T (has b (madeIds (recorded a (newMade d ls box) (plainOf s .made))))
         → (T (has b (madeIn s)) → Moment s b) → Moment (marking d box lent ∷ s) b
     go (refused c) e t ih = moment-on (marking d box lent) s b (ih t)
-    go (gives n) e t ih = elim (or-cases (same b (newMade d ls box .id)) (has b (madeIn s)) t) [
+    go (gives n) e t ih = elim (or-yes (same b (newMade d ls box .id)) (has b (madeIn s)) t) [
       | inl q ↦ subst (Moment (marking d box lent ∷ s)) (sym (same→eq b (newMade d ls box .id) q)) (here n e)
       | inr q ↦ moment-on (marking d box lent) s b (ih q)
     ]
@@ -256,7 +256,7 @@ module _ (N : ℕ) (s : List Step) (at : AtDesks N s) where
 
       go : T (eqb (a .desk) (b .desk)) ⊎ T (not (eqb (a .desk) (b .desk))) → Precedes s a b
       go (inl e) = let f = moment-of (m .0) a (listed-made N sd (m .0) (d .1) (b .desk) a listed) in
-          generated-before (f .0) (m .0) (eqb→eq (a .desk) (b .desk) e) (f .1) (m .1)
+          generated-before (f .0) (m .0) (eqb-yes e) (f .1) (m .1)
       go (inr n) = executed-before (m .0) (λ e. T-not (eqb (a .desk) (b .desk)) n (subst (λ (k : ℕ). T (eqb (a .desk) k)) e (eqb-refl (a .desk)))) listed (m .1)
 
   definition-1 : (a b : MarkId) → Precedes s a b ↔ inPast a b
@@ -271,7 +271,7 @@ module _ (N : ℕ) (s : List Step) (at : AtDesks N s) where
   module _ (S : MarkId → Type 0) (whole : Uninterrupted s S) where
     chains : (l : List Mark) → Standing (pastIn s) l → (b : MarkId) → T (has b (ids l)) → (a : MarkId) → inPast a b → S a → S b → Chain s S a b
     chains [] h b tb a t sa sb = absurd tb
-    chains (m ∷ older) h b tb a t sa sb = elim (or-cases (same b (m .id)) (has b (ids older)) tb) [
+    chains (m ∷ older) h b tb a t sa sb = elim (or-yes (same b (m .id)) (has b (ids older)) tb) [
       | inl q ↦ subst (λ (i : MarkId). inPast a i → S i → Chain s S a i) (sym (same→eq b (m .id) q)) (newest (λ e te u se. chains older (h .1) e te a u sa se)) t sb
       | inr q ↦ chains older (h .1) b q a t sa sb
     ]
@@ -281,7 +281,7 @@ module _ (N : ℕ) (s : List Step) (at : AtDesks N s) where
             let g = h .0 .good in
             let r = any-find (λ e. same a e || has a (pastIn s e)) (m .stamp) (g .cover a t) in
             let last = entry-link m g (r .0) (r .1) in
-            elim (or-cases (same a (r .0)) (has a (pastIn s (r .0))) (r .2)) [
+            elim (or-yes (same a (r .0)) (has a (pastIn s (r .0))) (r .2)) [
               | inl q ↦ link (subst (λ (i : MarkId). Links s i (m .id)) (sym (same→eq a (r .0) q)) last)
               | inr q ↦ let se = whole a (m .id) (r .0) sa sb (preceded a (m .id) t) (preceded a (r .0) q) (last .precede) in
                   onward (r .0) (ih (r .0) (h .0 .behind (r .0) (g .entry (r .0) (r .1))) q se) se last
@@ -344,7 +344,7 @@ module _ (N : ℕ) (s : List Step) (at : AtDesks N s) where
         λ f. back (λ a ta.
             let r = any-find (λ e. same a e || has a (pastIn s e)) (m .stamp) (g .cover a ta) in
             let k = f (r .0) (entry-link m g (r .0) (r .1)) in
-            elim (or-cases (same a (r .0)) (has a (pastIn s (r .0))) (r .2)) [
+            elim (or-yes (same a (r .0)) (has a (pastIn s (r .0))) (r .2)) [
               | inl e ↦ rw (same→eq a (r .0) e) k
               | inr n ↦ behind-all (pastIn s) l h (r .0) k a n
             ]),
@@ -371,13 +371,13 @@ module _ (N : ℕ) (s : List Step) (at : AtDesks N s) where
     apart a b ta tb =
         let p = precedes l a b in
         let q = precedes l b a in (
-          λ t. let u = and-snd (not (same a b)) (not p && not q) t in (
-            λ e. T-not (same a b) (and-fst (not (same a b)) (not p && not q) t) (subst (λ (i : MarkId). T (same a i)) e (same-refl a)),
-            λ k. T-not p (and-fst (not p) (not q) u) (traces a b tb .1 k),
-            λ k. T-not q (and-snd (not p) (not q) u) (traces b a ta .1 k),
+          λ t. let u = and-yes (not (same a b)) (not p && not q) t .1 in (
+            λ e. T-not (same a b) (and-yes (not (same a b)) (not p && not q) t .0) (subst (λ (i : MarkId). T (same a i)) e (same-refl a)),
+            λ k. T-not p (and-yes (not p) (not q) u .0) (traces a b tb .1 k),
+            λ k. T-not q (and-yes (not p) (not q) u .1) (traces b a ta .1 k),
           ),
-          λ k. and-intro (not (same a b)) (not p && not q) (not-T (same a b) (λ t. k .0 (same→eq a b t)))
-              (and-intro (not p) (not q) (not-T p (λ t. k .1 (traces a b tb .0 t))) (not-T q (λ t. k .2 (traces b a ta .0 t)))),
+          λ k. yes-and (not (same a b)) (not p && not q) (not-T (same a b) (λ t. k .0 (same→eq a b t)))
+              (yes-and (not p) (not q) (not-T p (λ t. k .1 (traces a b tb .0 t))) (not-T q (λ t. k .2 (traces b a ta .0 t)))),
         )
 
     traced : Traced s l

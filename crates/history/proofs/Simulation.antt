@@ -1,6 +1,6 @@
 -- The simulation: over every sequence the desks and the plain machine go through the same lists, sets and answers. Assumes nothing.
 use Prim.Native.Nat.{_<_, _≤_, suc, ℕ}
-use lib.Dec.{T, T-not, eqb, eqb-refl, eqb→eq, ltb, ltb→lt, not-T}
+use lib.Dec.{T, T-not, eqb, eqb-refl, ltb, not-T}
 use lib.ListN.{length}
 use mathlib.Core.Bool.{Bool, _||_, false, not, true}
 use mathlib.Core.List.{List, [], _∷_, map}
@@ -24,7 +24,7 @@ use Rattle.causality.proofs.Fit.{fields-same}
 use Rattle.causality.specs.inner.Fit.{Fit}
 use Rattle.causality.proofs.Invariant.{Invariant, fit-with, kept, mark-kept, receive-mark-kept}
 use Rattle.causality.proofs.Lists.{Picked, all-names, all-map, any-cong, any-find, find-all, find-has, ids-length, isSome, keep-cong}
-use Rattle.causality.proofs.Logic.{and-fst, and-snd, bool-ext, nT→eq, or-cases, or-inr, same-refl, same→eq}
+use Rattle.causality.proofs.Logic.{and-yes, bool-ext, eqb-yes, ltb-yes, nT→eq, or-inr, or-yes, same-refl, same→eq}
 use Rattle.causality.proofs.Past.{Good, Stands, counted, new-stands, precedes-past, tally-le, tally-same}
 use Rattle.causality.proofs.Reckoning.{Once, counted-once, good-with}
 use Rattle.causality.proofs.Images.{find-image}
@@ -45,7 +45,7 @@ lastAmong past is = rising (keep (λ e. not (any (λ j. has e (past j)) is)) is)
 agreeing : (p q : Past) (n : ℕ) → T (sameCount p (Said n)) → T (sameCount q (Said n)) → T (sameCount p q)
 agreeing Unsaid q n a b = tt
 agreeing (Said x) Unsaid n a b = tt
-agreeing (Said x) (Said y) n a b = subst (λ (k : ℕ). T (eqb x k)) (eqb→eq x n a ∙ sym (eqb→eq y n b)) (eqb-refl x)
+agreeing (Said x) (Said y) n a b = subst (λ (k : ℕ). T (eqb x k)) (eqb-yes a ∙ sym (eqb-yes b)) (eqb-refl x)
 
 -- past and register: the past and the mark of each name, as they are at the end of the sequence, so that nothing changes as it grows.
 module _ (N : ℕ) (some-desk : 1 ≤ N) (past : MarkId → List MarkId) (register : MarkId → Option Mark) where
@@ -225,7 +225,7 @@ module _ (N : ℕ) (some-desk : 1 ≤ N) (past : MarkId → List MarkId) (regist
       where
         again : (i j : MarkId) (is : List MarkId) → T (has j is) → (same i j || has i is) ≡ has i is
         again i j is t = bool-ext (same i j || has i is) (has i is)
-            (λ u. elim (or-cases (same i j) (has i is) u) [ inl q ↦ rw (same→eq i j q) t | inr q ↦ q ]) (or-inr (same i j) (has i is))
+            (λ u. elim (or-yes (same i j) (has i is) u) [ inl q ↦ rw (same→eq i j q) t | inr q ↦ q ]) (or-inr (same i j) (has i is))
 
     pub first-ok : (i : MarkId) (k : ℕ) (lent : List ℕ) → Inv (markStep N w (toFirst i k lent)) h
     first-ok i k lent = go (frameAt markId i k (w .frames)) refl
@@ -245,13 +245,13 @@ module _ (N : ℕ) (some-desk : 1 ≤ N) (past : MarkId → List MarkId) (regist
         let x = markStateAt N w d in
         let a : Bool = eqb (i .desk) (x .own) in
         let b : Bool = ltb (tally (x .own) (ids (x .executed))) (i .number) in
-        let p : i .desk ≡ d = eqb→eq (i .desk) (x .own) (and-fst a b t) ∙ inv .own d td in
+        let p : i .desk ≡ d = eqb-yes (and-yes a b t .0) ∙ inv .own d td in
         let k′ : i .number ≤ tally d (ids (x .executed)) = subst (λ (n : ℕ). i .number ≤ tally n (ids ((markStateAt N w n) .executed))) p k in
-        let q : tally d (ids (x .executed)) < i .number = subst (λ (n : ℕ). tally n (ids (x .executed)) < i .number) (inv .own d td) (ltb→lt (tally (x .own) (ids (x .executed))) (i .number) (and-snd a b t)) in
+        let q : tally d (ids (x .executed)) < i .number = subst (λ (n : ℕ). tally n (ids (x .executed)) < i .number) (inv .own d td) (ltb-yes (and-yes a b t .1)) in
         omega arith)
 
     none-unmade : (m : Mark) → Recorded w m → (unmade (markStateAt N w d) (m .id) || any (unmade (markStateAt N w d)) (m .stamp)) ≡ false
-    none-unmade m x = nT→eq both (not-T both (λ t. elim (or-cases (unmade (markStateAt N w d) (m .id)) (any (unmade (markStateAt N w d)) (m .stamp)) t) [
+    none-unmade m x = nT→eq both (not-T both (λ t. elim (or-yes (unmade (markStateAt N w d) (m .id)) (any (unmade (markStateAt N w d)) (m .stamp)) t) [
       | inl u ↦ T-not (unmade (markStateAt N w d) (m .id)) (made-no (m .id) (x .k .within)) u
       | inr u ↦ let r = any-find (unmade (markStateAt N w d)) (m .stamp) u in
           T-not (unmade (markStateAt N w d) (r .0)) (made-no (r .0) (x .ks (r .0) (x .good .entry (r .0) (r .1)))) (r .2)
@@ -407,7 +407,7 @@ module _ (N : ℕ) (some-desk : 1 ≤ N) (past : MarkId → List MarkId) (regist
         }
           where
             other : (m : Mark) → Unlisted past (Registered w) ((markStateAt N w d) .executed) m → T (not (has (m .id) (newAt .id ∷ ids ((markStateAt N w d) .executed))))
-            other m x = not-T (has (m .id) (newAt .id ∷ ids ((markStateAt N w d) .executed))) (λ u. elim (or-cases (same (m .id) (newAt .id)) (has (m .id) (ids ((markStateAt N w d) .executed))) u) [
+            other m x = not-T (has (m .id) (newAt .id ∷ ids ((markStateAt N w d) .executed))) (λ u. elim (or-yes (same (m .id) (newAt .id)) (has (m .id) (ids ((markStateAt N w d) .executed))) u) [
               | inl e ↦ T-not (same (newAt .id) (m .id)) (differs (m .id) (x .k .within)) (rw (same→eq (m .id) (newAt .id) e) (same-refl (newAt .id)))
               | inr n ↦ T-not (has (m .id) (ids ((markStateAt N w d) .executed))) (x .fresh) n
             ])

@@ -1,6 +1,6 @@
 -- Demand 3, and what follows from it. Assumes nothing.
 use Prim.Native.Nat.{_<_, _≤_, ℕ}
-use lib.Dec.{T, eqb, eqb→eq, leb, leb→le, ltb, nleb→lt}
+use lib.Dec.{T, eqb, leb, leb→le, ltb}
 use lib.ListN.{length}
 use mathlib.Core.Bool.{Bool, _&&_, _||_, false, not, true}
 use mathlib.Core.List.{List, [], _++_, _∷_, map}
@@ -24,7 +24,7 @@ use Rattle.causality.specs.inner.Fit.{Fit}
 use Rattle.causality.proofs.Invariant.{fit-with}
 use Rattle.causality.proofs.Reach.{sound-reckoned}
 use Rattle.causality.proofs.Lists.{Picked, all-append, all-intro, all-map, find-all, has-self}
-use Rattle.causality.proofs.Logic.{T→eq, and-fst, and-snd, or-inr, same→eq, split}
+use Rattle.causality.proofs.Logic.{T→eq, and-yes, eqb-yes, leb-no, or-inr, same→eq, split}
 use Rattle.causality.proofs.Past.{Standing, precedes-past, ready-past}
 use Rattle.history.specs.Demand3.{Agree, AtDesk, Behind, Boxed, Consequences, Consequent, Demand3, ReadsBack, boxed, converts, madeBoxed, occurs}
 use Rattle.history.specs.Plain.{DeskLists, History, MadeMark, PlainStep, Unmade, frameSize, handOver, handOverAt, lastOfPast, leaveOut, listsAt, listsFull, madeId, madeIds, making, makingAt, makingBy, ofMark, ofReceive, pastListed, pastOf, plain, relation}
@@ -51,8 +51,8 @@ relate-same made x ls e h a b = go (isExecuted x a && isExecuted x b) refl ∙ s
     go false q = rw (q, nm, q)
     go true q =
         let t : T (isExecuted x a && isExecuted x b) = rw q tt in
-        let ta = and-fst (isExecuted x a) (isExecuted x b) t in
-        let tb = and-snd (isExecuted x a) (isExecuted x b) t in
+        let ta = and-yes (isExecuted x a) (isExecuted x b) t .0 in
+        let tb = and-yes (isExecuted x a) (isExecuted x b) t .1 in
         let p₁ = precedes-past (pastOf made) (x .executed) h a b tb in
         let p₂ = precedes-past (pastOf made) (x .executed) h b a ta in
         rw (q, nm, q) (λ i. gives (elim (same a b) [
@@ -175,7 +175,7 @@ module _ (N : ℕ) (some-desk : 1 ≤ N) (s : List Step) (at : AtDesks N s) wher
 
   -- Of two that say the same number, both say it.
   says : (m : Mark) (r n : ℕ) → m .past ≡ Said r → T (sameCount (m .past) (Said n)) → m .past ≡ Said n
-  says m r n e t = e ∙ ap Said (eqb→eq r n (subst (λ (p : Past). T (sameCount p (Said n))) e t))
+  says m r n e t = e ∙ ap Said (eqb-yes (subst (λ (p : Past). T (sameCount p (Said n))) e t))
 
   pub at-desk : (d : ℕ) → AtDesk (markStateAt N (runMarks N s) d) (listsAt (plainOf s) d) ((plainOf s) .made)
   unfolding lastOfPast
@@ -275,7 +275,7 @@ idle N n (toFirst i k lent ∷ s) at = let r = idle N n s (at .1) in record { ra
 pub demand3 : (N : ℕ) → Demand3 N
 demand3 N s at = elim (split (leb 1 N)) [
   | inl t ↦ let some-desk = leb→le 1 N t in rw (same-run N some-desk s at) (agree N some-desk s at)
-  | inr t ↦ no-steps (nleb→lt 1 N t)
+  | inr t ↦ no-steps (leb-no t)
 ]
   where
     no-steps : N < 1 → Agree N (run N s) (plainOf s)
@@ -284,7 +284,7 @@ demand3 N s at = elim (split (leb 1 N)) [
 pub consequences : (N : ℕ) → Consequences N
 consequences N s at = elim (split (leb 1 N)) [
   | inl t ↦ let some-desk = leb→le 1 N t in rw (same-run N some-desk s at) (consequent N some-desk s at)
-  | inr t ↦ no-steps (nleb→lt 1 N t)
+  | inr t ↦ no-steps (leb-no t)
 ]
   where
     no-steps : N < 1 → Consequent N (run N s) (plainOf s)

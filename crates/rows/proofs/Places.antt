@@ -12,7 +12,7 @@ use Rattle.frame.specs.Names.{MarkId}
 use Rattle.causality.specs.Marks.{All, find, has, same}
 use Rattle.causality.specs.State.{Mark, ids, markId, precedes}
 use Rattle.causality.proofs.Lists.{Picked, any-find, find-all, find-has}
-use Rattle.causality.proofs.Logic.{nT→eq, or-cases, or-inr, same-refl, same→eq, split}
+use Rattle.causality.proofs.Logic.{nT→eq, or-inr, or-yes, same-refl, same→eq, split}
 use Rattle.causality.proofs.Past.{fresh-of}
 use Rattle.causality.proofs.Reach.{not-new, precedes-at, precedes-listed, precedes-old, sound-counted}
 use Rattle.causality.specs.inner.Order.{CausallyOrdered}
@@ -25,7 +25,7 @@ use Rattle.rows.proofs.Down.{down-has, down-ids, down-more}
 -- A named mark stands at a place.
 pub name-place : (ds ns : List ℕ) (q : ℕ) (i : MarkId) → T (has i (namesDown q ds ns)) → (r : ℕ) × (r < q) × (nameAt ds ns r ≡ i)
 name-place ds ns zero i t = absurd t
-name-place ds ns (suc q) i t = elim (or-cases (same i (nameAt ds ns q)) (has i (namesDown q ds ns)) t) [
+name-place ds ns (suc q) i t = elim (or-yes (same i (nameAt ds ns q)) (has i (namesDown q ds ns)) t) [
   | inl u ↦ (q, omega arith, sym (same→eq i (nameAt ds ns q) u))
   | inr u ↦ let x = name-place ds ns q i u in let h = x .1 in (x .0, omega arith, x .2)
 ]
@@ -84,7 +84,7 @@ module _ (n : ℕ) (ds ns : List ℕ) (bs : ℕ → Carried) (ss : List ℕ) whe
       let x = ((markAt n ds ns bs ss p) .id) in
       let w : T (precedes (m ∷ older) x (m .id)) = rw (precedes-there count q s (omega arith) x) at t in
       let r = any-find (λ e. same x e || precedes older x e) (m .stamp) (rw (precedes-at m older x (m .id) (same-refl (m .id))) at w) in
-      not-before count p q s h k (elim (or-cases (same x (r .0)) (precedes older x (r .0)) (r .2)) [
+      not-before count p q s h k (elim (or-yes (same x (r .0)) (precedes older x (r .0)) (r .2)) [
         | inl e ↦ rw (same→eq x (r .0) e) (u .0 .listed (r .0) (r .1))
         | inr v ↦ (precedes-listed older (u .1) x (r .0) v) .0
       ])))

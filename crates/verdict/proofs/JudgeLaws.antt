@@ -17,7 +17,7 @@ use Rattle.frame.specs.Names.{MarkId}
 use Rattle.causality.specs.Marks.{All, has, tally}
 use Rattle.causality.specs.State.{Mark, falseEntries, falseStamp, ids, ready, reckoned, reckoning, sameCount}
 use Rattle.causality.proofs.Lists.{all-map}
-use Rattle.causality.proofs.Logic.{and-fst, and-intro, and-snd, bool-ext, eq→T, nT→eq, split}
+use Rattle.causality.proofs.Logic.{and-yes, bool-ext, eq→T, nT→eq, split, yes-and}
 use Rattle.causality.proofs.Past.{prefix-has, prefix-le}
 use Rattle.causality.proofs.Reach.{follows-of, reckoning-le, sound-counted}
 use Rattle.causality.specs.inner.Order.{Follows, CausallyOrdered}
@@ -177,9 +177,9 @@ module _ (n count to : ℕ) (ds ns : List ℕ) (bs : ℕ → Carried) (ss : List
       covers-all : (d : ℕ) → tally d (ids first) ≤ max (rowFn row d) (rowFn below d)
       covers-all d = elim (split (leb 1 d && leb d n)) [
         | inl t ↦ subst (λ (is : List MarkId). tally d is ≤ max (rowFn row d) (rowFn below d)) (sym (ids-names n ds ns bs ss to))
-            (covers d (leb→le 1 d (and-fst (leb 1 d) (leb d n) t)) (leb→le d n (and-snd (leb 1 d) (leb d n) t)))
+            (covers d (leb→le 1 d (and-yes (leb 1 d) (leb d n) t .0)) (leb→le d n (and-yes (leb 1 d) (leb d n) t .1)))
         | inr t ↦ let e = tally-none d first (all-map (λ m q z. T-not (leb 1 d && leb d n) t
-            (and-intro (leb 1 d) (leb d n) (le→leb 1 d (subst (λ (x : ℕ). 1 ≤ x) (sym z) (q .0))) (le→leb d n (subst (λ (x : ℕ). x ≤ n) (sym z) (q .1)))))
+            (yes-and (leb 1 d) (leb d n) (le→leb 1 d (subst (λ (x : ℕ). 1 ≤ x) (sym z) (q .0))) (le→leb d n (subst (λ (x : ℕ). x ≤ n) (sym z) (q .1)))))
             first (named-desks n to ds ns bs ss (named-less n count ds to f le))) in omega arith
       ]
 

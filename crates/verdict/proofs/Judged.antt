@@ -11,7 +11,7 @@ use Rattle.causality.specs.Marks.{any, tally}
 use Rattle.causality.specs.State.{State, ids, sameCount}
 use Rattle.causality.proofs.Fit.{entries-same, same-entries}
 use Rattle.causality.proofs.Lists.{any-find, any-of}
-use Rattle.causality.proofs.Logic.{and-fst, and-intro, and-snd, bool-ext, eq→T}
+use Rattle.causality.proofs.Logic.{and-yes, bool-ext, eq→T, yes-and}
 use Rattle.causality.proofs.RowLaws.{row-of-entries, show, shown}
 use Rattle.causality.specs.Rows.{entriesOfRow}
 use Rattle.causality.specs.inner.Passes.{rowOf}
@@ -42,16 +42,16 @@ unmade-by-row n st row lo hi i = ap (λ (b : Bool). (eqb (i .desk) (st .own) && 
     there u =
         let x = any-find p es u in
         let w = shown (rowFn row) 1 n (x .0) (x .1) in
-        let d : x .0 .desk ≡ st .own = eqb→eq (x .0 .desk) (st .own) (and-fst (eqb (x .0 .desk) (st .own)) (ltb t (x .0 .number)) (x .2)) in
+        let d : x .0 .desk ≡ st .own = eqb→eq (x .0 .desk) (st .own) (and-yes (eqb (x .0 .desk) (st .own)) (ltb t (x .0 .number)) (x .2) .0) in
         let v : x .0 .number ≡ rowFn row (st .own) = w .value ∙ ap (rowFn row) d in
-        subst (λ (k : ℕ). T (ltb t k)) v (and-snd (eqb (x .0 .desk) (st .own)) (ltb t (x .0 .number)) (x .2))
+        subst (λ (k : ℕ). T (ltb t k)) v (and-yes (eqb (x .0 .desk) (st .own)) (ltb t (x .0 .number)) (x .2) .1)
 
     back : T (ltb t (rowFn row (st .own))) → T (any p es)
     back u =
         let e : MarkId = record { desk = st .own; number = rowFn row (st .own) } in
         let l = ltb→lt t (rowFn row (st .own)) u in
         any-of p es e (show (rowFn row) 1 n e (record { low = lo; high = omega arith; value = refl; pos = omega arith }))
-        (and-intro (eqb (st .own) (st .own)) (ltb t (rowFn row (st .own))) (eqb-refl (st .own)) u)
+        (yes-and (eqb (st .own) (st .own)) (ltb t (rowFn row (st .own))) (eqb-refl (st .own)) u)
 
 -- KNOWN
 
