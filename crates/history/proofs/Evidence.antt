@@ -2,29 +2,22 @@
 use Prim.Native.Nat.{_≤_, ℕ}
 use lib.ListN.{length}
 use mathlib.Core.List.{List, [], _++_, _∷_}
-use mathlib.Core.Path.{_≡_}
 use Rattle.frame.specs.Names.{MarkId}
 use Rattle.causality.specs.Evidence.{evidence, evidencePairs}
-use Rattle.causality.specs.Marks.{All}
-use Rattle.causality.specs.State.{Mark, State, markId}
+use Rattle.causality.specs.State.{State, markId}
 use Rattle.causality.proofs.EvidenceLaws.{Agrees, in-past-of, proves}
 use Rattle.causality.proofs.Lists.{all-names, all-map}
 use Rattle.causality.proofs.Past.{precedes-past}
 use Rattle.causality.proofs.Reckoning.{Once}
 use Rattle.history.specs.Evidence.{EvidenceHolds, ProvedBy, happenedBefore, ofPast}
 use Rattle.history.specs.Plain.{MadeMark, lastOfPast, listsAt, pastOf}
-use Rattle.history.specs.Run.{Step}
-use Rattle.history.proofs.MarkRun.{markStateAt, runMarks}
-use Rattle.history.proofs.Sequence.{AtDesks, InvAt, inv-of, plainOf, same-run}
+use Rattle.history.specs.Run.{Step, run, stateAt}
+use Rattle.history.proofs.Sequence.{AtDesks, InvAt, inv-of, plainOf}
 use Rattle.history.proofs.Theorem.{at-desk, some-desk}
-
-all-front : (P : Mark → Type 0) (ms ns : List Mark) → All P (ms ++ ns) → All P ms
-all-front P [] ns a = tt
-all-front P (m ∷ ms) ns a = (a .0, all-front P ms ns (a .1))
 
 module _ (N : ℕ) (some-desk : 1 ≤ N) (s : List Step) (at : AtDesks N s) (d : ℕ) where
   abbrev st : State
-  st = markStateAt N (runMarks N s) d
+  st = stateAt N (run N s) d
 
   abbrev made : List MadeMark
   made = plainOf s .made
@@ -34,17 +27,16 @@ module _ (N : ℕ) (some-desk : 1 ≤ N) (s : List Step) (at : AtDesks N s) (d :
 
   -- The stamps, the precedence and the counts of the desk are those of the history.
   agrees : Agrees (lastOfPast made) (happenedBefore made) (ofPast made) (st .executed)
+  unfolding lastOfPast
   agrees = record {
-    stamps = all-front (λ m. m .stamp ≡ lastOfPast made (m .id)) (st .executed) (st .waiting) (at-desk N some-desk s at d .stamps);
+    stamps = all-map (λ m k. k .stamp) (st .executed) (inv .ok d .ks);
     precedence = precedes-past (pastOf made) (st .executed) (inv .ok d .hist);
     counts = λ e b t. in-past-of (pastOf made) (st .executed) (inv .ok d .hist) e b t
-        (all-names markId (λ i. Once (pastOf made i)) (st .executed) (all-map (λ m k. k .told .once) (st .executed) (inv .ok d .ks)) b t);
+        (all-names markId (λ i. Once (pastOf made i)) (st .executed) (all-map (λ m k. k .once) (st .executed) (inv .ok d .ks)) b t);
   }
 
   proved-by : (a b : MarkId) (lent : List MarkId) → ProvedBy made (listsAt (plainOf s) d) a b lent (evidence st a b (length lent)) (evidencePairs st a b lent)
   proved-by a b lent = rw (at-desk N some-desk s at d .relates a b) at (proves (lastOfPast made) (happenedBefore made) (ofPast made) st (inv .kept d .reach .sound) agrees a b lent)
 
 pub evidence-holds : (N : ℕ) → EvidenceHolds N
-evidence-holds N s at d t a b lent =
-    let p = some-desk N d t in
-    rw (same-run N p s at) (proved-by N p s at d a b lent)
+evidence-holds N s at d t a b lent = proved-by N (some-desk N d t) s at d a b lent

@@ -1,59 +1,43 @@
 -- The paper's definitions, theorem and properties hold of every sequence: from the simulation and demand 3. Assumes nothing.
 use Prim.Native.Nat.{_<_, _≤_, suc, ℕ}
-use lib.Dec.{T, T-not, eqb, eqb-refl, ltb, not-T}
+use lib.Dec.{T, T-not, eqb, eqb-refl, not-T}
 use lib.ListN.{length}
 use mathlib.Core.Bool.{Bool, _&&_, _||_, false, not, true}
-use mathlib.Core.List.{List, [], _++_, _∷_, map}
+use mathlib.Core.List.{List, [], _++_, _∷_}
 use mathlib.Core.Logic.{_↔_, _⊎_, inl, inr}
-use mathlib.Core.Option.{Option, none, some}
 use mathlib.Core.Path.{_∙_, _≡_, ap, refl, subst, sym}
-use native.Mathlib.Omega.{arith}
 use Rattle.frame.specs.declared.MarkBox.{MarkBox}
 use Rattle.frame.specs.Answer.{Answer, gives, refused}
-use Rattle.frame.specs.Names.{MarkId, boxRule, desks, isDesk}
+use Rattle.frame.specs.Names.{MarkId, desks, isDesk}
 use Rattle.causality.specs.Answers.{Numbered}
 use Rattle.causality.specs.Calls.{earlier, markIn}
-use Rattle.causality.specs.Marks.{All, any, find, has, keep, same, tally}
+use Rattle.causality.specs.Marks.{All, any, has, keep, same, tally}
 use Rattle.causality.specs.State.{Mark, State, concurrent, ids, markId, precedes, ready}
 use Rattle.causality.proofs.Fit.{fit-back}
-use Rattle.causality.proofs.Lists.{Picked, all-at, all-names, all-intro, all-map, any-find, any-of, find-all, find-has, has-keep, has-rising, has-self, isSome, keep-has}
+use Rattle.causality.specs.inner.Fit.{Fit}
+use Rattle.causality.proofs.Lists.{all-at, all-names, all-intro, all-map, any-find, any-of, has-keep, has-rising, has-self, keep-has}
 use Rattle.causality.proofs.Logic.{and-yes, eqb-yes, or-inr, or-yes, same-refl, same→eq, split, yes-and}
 use Rattle.causality.specs.inner.Order.{Strict}
-use Rattle.causality.proofs.Past.{Good, Standing, behind-all, counted, precedes-past, prefix-has, ready-past, ready-stands}
+use Rattle.causality.proofs.Past.{Good, Standing, behind-all, precedes-past, ready-past, ready-stands}
 use Rattle.history.specs.Evidence.{happenedBefore}
 use Rattle.history.specs.Paper.{Apart, Chain, IsReady, IsVector, Links, MadeAt, Paper, PaperAt, Precedes, RisingDesks, Traced, TracedWith, Uninterrupted, executed-before, generated-before, link, onward, through}
-use Rattle.history.specs.Plain.{DeskLists, MadeMark, frameSize, lastOfPast, leaveOut, listsAt, listsFull, madeIds, making, makingBy, newMade, pastOf, recorded}
-use Rattle.history.specs.Run.{Step, atDesk, handing, marking, run, toFirst, toSecond}
+use Rattle.history.specs.Plain.{DeskLists, MadeMark, lastOfPast, listsAt, madeId, madeIds, making, newMade, pastOf, recorded}
+use Rattle.history.specs.Run.{Step, atDesk, handing, marking, run, stateAt, toFirst, toSecond}
 use Rattle.history.specs.Silent.{listedAt}
-use Rattle.history.proofs.Calls.{made-ids, madeOf}
-use Rattle.history.proofs.MarkRun.{MarkRun, markStateAt, runMarks}
-use Rattle.history.proofs.Sequence.{AtDesks, InvAt, framed, hand-hist, inv-of, pastAt, plainOf, recorded-all, registerAt, same-run}
+use Rattle.history.proofs.Calls.{Recorded, recorded-made}
+use Rattle.history.proofs.Sequence.{AtDesks, InvAt, fits, hand-hist, inv-of, pastAt, plainOf, recorded-all}
 use Rattle.history.proofs.Silent.{all-back}
-use Rattle.history.proofs.Simulation.{Recorded}
-use Rattle.history.proofs.Theorem.{at-desk, demand3, frames-all, some-desk}
+use Rattle.history.proofs.Theorem.{at-desk, demand3, all-both, each-frame, listed-executed, making-answers, some-desk}
 
--- The names of the marks made in s, and their pasts.
+-- The names of the marks made in s.
 abbrev madeIn : List Step → List MarkId
 madeIn s = madeIds (plainOf s .made)
-
-abbrev pastIn : List Step → MarkId → List MarkId
-pastIn s = pastOf (plainOf s .made)
 
 -- GENERATION: the markings of a sequence and the marks made
 
 -- A making that is not left out gives the new mark's number.
 making-number : (d : ℕ) (ls : DeskLists) (b : MarkBox) (lent : ℕ) (n : Numbered) → making d ls b lent .answer ≡ gives n → n .number ≡ suc (tally d (madeIds (ls .listed)))
-unfolding makingBy leaveOut
-making-number d ls b lent n e = go (boxRule b) (listsFull ls) (ltb lent (frameSize ls)) refl refl refl e
-  where
-    never : {X : Type 0} (c : ℕ) → refused c ≡ gives n → X
-    never c q = let z : _≡_ {A = ℕ} 0 1 = cc in let y : ⊥ = omega arith in absurd y
-
-    go : (x y z : Bool) → boxRule b ≡ x → listsFull ls ≡ y → ltb lent (frameSize ls) ≡ z → making d ls b lent .answer ≡ gives n → n .number ≡ suc (tally d (madeIds (ls .listed)))
-    go false y z ex ey ez q = never 5 (rw (ex, makingBy) at q)
-    go true true z ex ey ez q = never 9 (rw ey at (rw (ex, makingBy) at q))
-    go true false true ex ey ez q = never 13 (rw ez at (rw ey at (rw (ex, makingBy) at q)))
-    go true false false ex ey ez q = let p = rw ez at (rw ey at (rw (ex, makingBy) at q)) in cc
+making-number d ls b lent n = making-answers (λ a. a ≡ gives n → n .number ≡ suc (tally d (madeIds (ls .listed)))) (λ q. cc) (λ q. cc) (λ q. cc) d ls b lent (λ q. cc)
 
 -- What holds of the marks made holds of those made before.
 made-back : (P : MadeMark → Type 0) (later s : List Step) → All P (plainOf (later ++ s) .made) → All P (plainOf s .made)
@@ -142,60 +126,32 @@ module _ (N : ℕ) (s : List Step) (at : AtDesks N s) {moment : List Step} {b : 
 -- ONE SEQUENCE, with a desk
 
 module _ (N : ℕ) (sd : 1 ≤ N) (s : List Step) (at : AtDesks N s) where
-  abbrev w : MarkRun
-  w = runMarks N s
-
-  abbrev past : MarkId → List MarkId
-  past = pastAt N sd s
-
   inv : InvAt N sd s
   inv = inv-of N sd s at
 
-  names : madeIn s ≡ ids (w .made)
-  names = ap madeIds (inv .hist) ∙ made-ids past (w .made)
+  abbrev executedAt : ℕ → List Mark
+  executedAt d = (stateAt N (run N s) d) .executed
 
-  listed-ids : (d : ℕ) → listedAt s d ≡ ids ((markStateAt N w d) .executed)
-  listed-ids d = ap (λ (l : DeskLists). madeIds (l .listed)) (inv .lists d) ∙ made-ids past ((markStateAt N w d) .executed)
+  -- A mark made is executed at its own desk, and an executed one is made.
+  own-executed : (b : MarkId) → T (has b (madeIn s)) → T (has b (ids (executedAt (b .desk))))
+  own-executed = all-names madeId (λ i. T (has i (ids (executedAt (i .desk))))) (plainOf s .made) (inv .reached)
 
-  record MarkOf (b : MarkId) : Type 0 where
-    m : Mark
-    name : m .id ≡ b
-    rec : Recorded N sd past (registerAt N sd s) w m
-
-  mark-of : (b : MarkId) → T (has b (madeIn s)) → MarkOf b
-  mark-of b t = go (find markId b (w .made)) refl
-    where
-      go : (o : Option Mark) → find markId b (w .made) ≡ o → MarkOf b
-      go none e = absurd (subst (λ (o : Option Mark). T (isSome o)) e (subst T (find-has markId b (w .made)) (rw names at t)))
-      go (some m) e =
-          let p = subst (Picked (Recorded N sd past (registerAt N sd s) w) (λ v. same b (v .id))) e (find-all markId (Recorded N sd past (registerAt N sd s) w) b (w .made) (inv .made)) in
-          record { m = m; name = sym (same→eq b (m .id) (p .1)); rec = p .0 }
-
-  -- A mark made is listed at its own desk, and a listed one is made.
-  own-executed : (b : MarkId) → T (has b (madeIn s)) → T (has b (ids ((markStateAt N w (b .desk)) .executed)))
-  own-executed b t =
-      let x = mark-of b t in
-      let l = (markStateAt N w (x .m .id .desk)) .executed in
-      subst (λ (i : MarkId). T (has i (ids ((markStateAt N w (i .desk)) .executed)))) (x .name)
-      (prefix-has (ids l) (counted past l (inv .ok (x .m .id .desk) .hist)) (x .m .id) (x .rec .good .pos) (x .rec .k .within))
+  -- What holds of each executed mark holds of each made one.
+  of-made : (P : MarkId → Type 0) → ((m : Mark) → Recorded (pastAt s) (plainOf s .made) m → Fit N m → P (m .id)) → (b : MarkId) → T (has b (madeIn s)) → P b
+  of-made P f b t =
+      let l = executedAt (b .desk) in
+      all-names markId P l (all-both {P = Recorded (pastAt s) (plainOf s .made)} f l (inv .ok (b .desk) .ks) (inv .kept (b .desk) .executed)) b (own-executed b t)
 
   own-listed : (b : MarkId) → T (has b (madeIn s)) → T (has b (listedAt s (b .desk)))
-  own-listed b t = rw (listed-ids (b .desk)) (own-executed b t)
+  own-listed b t = rw (listed-executed N sd s at (b .desk)) (own-executed b t)
 
   listed-made : (d : ℕ) (a : MarkId) → T (has a (listedAt s d)) → T (has a (madeIn s))
-  listed-made d a t =
-      let l = (markStateAt N w d) .executed in
-      rw names (rw (find-has markId a (w .made)) (all-names markId (λ i. T (isSome (registerAt N sd s i))) l (all-map (λ m k. rw (k .registered) tt) l (inv .ok d .ks)) a (rw (listed-ids d) at t)))
-
-  each-past : (ms : List Mark) → All (λ x. past (x .id) ≡ x .past) (map (madeOf past) ms)
-  unfolding madeOf
-  each-past [] = tt
-  each-past (m ∷ ms) = (refl, each-past ms)
+  listed-made d a t = all-names markId (λ i. T (has i (madeIn s))) (executedAt d) (all-map (recorded-made (pastAt s) (plainOf s .made)) (executedAt d) (inv .ok d .ks)) a (rw (listed-executed N sd s at d) at t)
 
   -- "its past is the desk's list".
-  past-listed : {moment : List Step} {b : MarkId} → MadeAt s moment b → past b ≡ listedAt moment (b .desk)
+  past-listed : {moment : List Step} {b : MarkId} → MadeAt s moment b → pastAt s b ≡ listedAt moment (b .desk)
   unfolding newMade
-  past-listed g = ap past (sym (made-name g)) ∙ of-moment (λ x. past (x .id) ≡ x .past) g (subst (λ (ys : List MadeMark). All (λ x. past (x .id) ≡ x .past) ys) (sym (inv .hist)) (each-past (w .made)))
+  past-listed g = ap (pastAt s) (sym (made-name g)) ∙ of-moment (λ x. pastAt s (x .id) ≡ x .past) g (fits N sd s at)
 
 -- What holds of every name of a list holds of each.
 all-has : (P : MarkId → Type 0) (xs : List MarkId) → ((x : MarkId) → T (has x xs) → P x) → All P xs
@@ -207,12 +163,11 @@ strict-rising [] h = tt
 strict-rising (x ∷ xs) h = (all-has (λ f. x .desk < f .desk) xs (h .0), strict-rising xs (h .1))
 
 unmade-past : (xs : List MadeMark) (b : MarkId) → T (not (has b (madeIds xs))) → pastOf xs b ≡ []
-unmade-past [] b t = refl
-unmade-past (x ∷ xs) b t = go (same b (x .id)) t (unmade-past xs b)
+unmade-past xs b t = go (pastOf xs b) refl
   where
-    go : (q : Bool) → T (not (q || has b (madeIds xs))) → (T (not (has b (madeIds xs))) → pastOf xs b ≡ []) → _≡_ {A = List MarkId} (elim q [ true ↦ x .past | false ↦ pastOf xs b ]) []
-    go true t ih = absurd t
-    go false t ih = ih t
+    go : (is : List MarkId) → pastOf xs b ≡ is → is ≡ []
+    go [] e = refl
+    go (a ∷ is) e = absurd (T-not (has b (madeIds xs)) t (past-made xs a b (rw e (has-self a is))))
 
 -- DEFINITION 1
 
@@ -227,9 +182,7 @@ module _ (N : ℕ) (s : List Step) (at : AtDesks N s) where
   down : (a x b : MarkId) → inPast a x → inPast x b → inPast a b
   down a x b t u =
       let made = past-made (plainOf s .made) x b u in
-      let sd = desk-of b made in
-      let r = mark-of N sd s at b made in
-      subst (λ (i : MarkId). inPast x i → inPast a i) (r .name) (λ v. r .rec .good .down x a v t) u
+      of-made N (desk-of b made) s at (λ i. inPast x i → inPast a i) (λ m r f v. r .good .down x a v t) b made u
 
   in-past : {a b : MarkId} → Precedes s a b → inPast a b
   in-past {a} {b} (generated-before first moment e f g) =
@@ -265,11 +218,11 @@ module _ (N : ℕ) (s : List Step) (at : AtDesks N s) where
   -- THEOREM 1
 
   -- The entries of a mark with a past are its links.
-  entry-link : (m : Mark) → Good (pastIn s) m → (e : MarkId) → T (has e (m .stamp)) → Links s e (m .id)
+  entry-link : (m : Mark) → Good (pastAt s) m → (e : MarkId) → T (has e (m .stamp)) → Links s e (m .id)
   entry-link m g e t = record { precede = preceded e (m .id) (g .entry e t); none-between = λ x p q. g .last e x t (in-past q) (in-past p) }
 
   module _ (S : MarkId → Type 0) (whole : Uninterrupted s S) where
-    chains : (l : List Mark) → Standing (pastIn s) l → (b : MarkId) → T (has b (ids l)) → (a : MarkId) → inPast a b → S a → S b → Chain s S a b
+    chains : (l : List Mark) → Standing (pastAt s) l → (b : MarkId) → T (has b (ids l)) → (a : MarkId) → inPast a b → S a → S b → Chain s S a b
     chains [] h b tb a t sa sb = absurd tb
     chains (m ∷ older) h b tb a t sa sb = elim (or-yes (same b (m .id)) (has b (ids older)) tb) [
       | inl q ↦ subst (λ (i : MarkId). inPast a i → S i → Chain s S a i) (sym (same→eq b (m .id) q)) (newest (λ e te u se. chains older (h .1) e te a u sa se)) t sb
@@ -279,9 +232,9 @@ module _ (N : ℕ) (s : List Step) (at : AtDesks N s) where
         newest : ((e : MarkId) → T (has e (ids older)) → inPast a e → S e → Chain s S a e) → inPast a (m .id) → S (m .id) → Chain s S a (m .id)
         newest ih t sb =
             let g = h .0 .good in
-            let r = any-find (λ e. same a e || has a (pastIn s e)) (m .stamp) (g .cover a t) in
+            let r = any-find (λ e. same a e || has a (pastAt s e)) (m .stamp) (g .cover a t) in
             let last = entry-link m g (r .0) (r .1) in
-            elim (or-yes (same a (r .0)) (has a (pastIn s (r .0))) (r .2)) [
+            elim (or-yes (same a (r .0)) (has a (pastAt s (r .0))) (r .2)) [
               | inl q ↦ link (subst (λ (i : MarkId). Links s i (m .id)) (sym (same→eq a (r .0) q)) last)
               | inr q ↦ let se = whole a (m .id) (r .0) sa sb (preceded a (m .id) t) (preceded a (r .0) q) (last .precede) in
                   onward (r .0) (ih (r .0) (h .0 .behind (r .0) (g .entry (r .0) (r .1))) q se) se last
@@ -297,7 +250,7 @@ module _ (N : ℕ) (s : List Step) (at : AtDesks N s) where
           let t = in-past p in
           let made = past-made (plainOf s .made) a b t in
           let sd = desk-of b made in
-          chains ((markStateAt N (runMarks N s) (b .desk)) .executed) (inv N sd s at .ok (b .desk) .hist) b (own-executed N sd s at b made) a t sa sb,
+          chains (executedAt N sd s at (b .desk)) (inv N sd s at .ok (b .desk) .hist) b (own-executed N sd s at b made) a t sa sb,
       along,
     )
 
@@ -308,20 +261,20 @@ module _ (N : ℕ) (s : List Step) (at : AtDesks N s) where
   vector-entry x b = (there, back)
     where
       p : List MarkId
-      p = pastIn s b
+      p = pastAt s b
 
       out : MarkId → Bool
-      out e = not (any (λ j. has e (pastIn s j)) p)
+      out e = not (any (λ j. has e (pastAt s j)) p)
 
       there : T (has x (lastOfPast (plainOf s .made) b)) → Links s x b
       there t = let k = keep-has out p x (rw (has-rising x (keep out p)) at t) in record {
         precede = preceded x b (k .0);
-        none-between = λ y u v. T-not (any (λ j. has x (pastIn s j)) p) (k .1) (any-of (λ j. has x (pastIn s j)) p y (in-past v) (in-past u));
+        none-between = λ y u v. T-not (any (λ j. has x (pastAt s j)) p) (k .1) (any-of (λ j. has x (pastAt s j)) p y (in-past v) (in-past u));
       }
 
       back : Links s x b → T (has x (lastOfPast (plainOf s .made) b))
-      back l = rw (has-rising x (keep out p)) (has-keep out p x (in-past (l .precede)) (not-T (any (λ j. has x (pastIn s j)) p) (λ t.
-          let r = any-find (λ j. has x (pastIn s j)) p t in
+      back l = rw (has-rising x (keep out p)) (has-keep out p x (in-past (l .precede)) (not-T (any (λ j. has x (pastAt s j)) p) (λ t.
+          let r = any-find (λ j. has x (pastAt s j)) p t in
           l .none-between (r .0) (preceded x (r .0) (r .2)) (preceded (r .0) b (r .1)))))
 
   vector : (b : MarkId) → IsVector s b (lastOfPast (plainOf s .made) b)
@@ -329,42 +282,40 @@ module _ (N : ℕ) (s : List Step) (at : AtDesks N s) where
   vector b = record { entry = λ x. vector-entry x b; rising = go (split (has b (madeIn s))) }
     where
       go : T (has b (madeIn s)) ⊎ T (not (has b (madeIn s))) → RisingDesks (lastOfPast (plainOf s .made) b)
-      go (inl t) =
-          let r = mark-of N (desk-of b t) s at b t in
-          subst (λ (i : MarkId). RisingDesks (lastOfPast (plainOf s .made) i)) (r .name) (subst RisingDesks (r .rec .stamp) (strict-rising (r .m .stamp) (r .rec .fit .strict)))
+      go (inl t) = of-made N (desk-of b t) s at (λ i. RisingDesks (lastOfPast (plainOf s .made) i)) (λ m r f. subst RisingDesks (r .stamp) (strict-rising (m .stamp) (f .strict))) b t
       go (inr t) = rw (unmade-past (plainOf s .made) b t) tt
 
   -- PROPERTY 1
 
-  module _ (l : List Mark) (h : Standing (pastIn s) l) where
-    is-ready : (m : Mark) → Good (pastIn s) m → IsReady s l m
+  module _ (l : List Mark) (h : Standing (pastAt s) l) where
+    is-ready : (m : Mark) → Good (pastAt s) m → IsReady s l m
     is-ready m g = record {
       by-direct = (
         λ t a k. there t a (k .precede),
         λ f. back (λ a ta.
-            let r = any-find (λ e. same a e || has a (pastIn s e)) (m .stamp) (g .cover a ta) in
+            let r = any-find (λ e. same a e || has a (pastAt s e)) (m .stamp) (g .cover a ta) in
             let k = f (r .0) (entry-link m g (r .0) (r .1)) in
-            elim (or-yes (same a (r .0)) (has a (pastIn s (r .0))) (r .2)) [
+            elim (or-yes (same a (r .0)) (has a (pastAt s (r .0))) (r .2)) [
               | inl e ↦ rw (same→eq a (r .0) e) k
-              | inr n ↦ behind-all (pastIn s) l h (r .0) k a n
+              | inr n ↦ behind-all (pastAt s) l h (r .0) k a n
             ]),
       );
       by-all = (there, λ f. back (λ a ta. f a (preceded a (m .id) ta)));
     }
       where
         there : T (ready l m) → (a : MarkId) → Precedes s a (m .id) → T (has a (ids l))
-        there t a p = all-at (λ a. has a (ids l)) (pastIn s (m .id)) (rw (ready-past (pastIn s) l h m g) at t) a (in-past p)
+        there t a p = all-at (λ a. has a (ids l)) (pastAt s (m .id)) (rw (ready-past (pastAt s) l h m g) at t) a (in-past p)
 
         back : ((a : MarkId) → inPast a (m .id) → T (has a (ids l))) → T (ready l m)
-        back f = rw (ready-past (pastIn s) l h m g) (all-intro (λ a. has a (ids l)) (pastIn s (m .id)) f)
+        back f = rw (ready-past (pastAt s) l h m g) (all-intro (λ a. has a (ids l)) (pastAt s (m .id)) f)
 
     -- PROPERTY 2
 
     traces : (a b : MarkId) → T (has b (ids l)) → T (precedes l a b) ↔ Precedes s a b
-    traces a b tb = (λ t. preceded a b (rw (precedes-past (pastIn s) l h a b tb) at t), λ p. rw (precedes-past (pastIn s) l h a b tb) (in-past p))
+    traces a b tb = (λ t. preceded a b (rw (precedes-past (pastAt s) l h a b tb) at t), λ p. rw (precedes-past (pastAt s) l h a b tb) (in-past p))
 
     inside : (x b : MarkId) → T (has b (ids l)) → Precedes s x b → T (has x (ids l))
-    inside x b tb p = behind-all (pastIn s) l h b tb x (in-past p)
+    inside x b tb p = behind-all (pastAt s) l h b tb x (in-past p)
 
     apart : (a b : MarkId) → T (has a (ids l)) → T (has b (ids l)) → T (concurrent l a b) ↔ Apart s a b
     unfolding concurrent
@@ -398,7 +349,7 @@ module _ (N : ℕ) (s : List Step) (at : AtDesks N s) where
     }
 
   -- Causality is preserved.
-  preserved : (l : List Mark) → Standing (pastIn s) l → (a b : MarkId) → T (has b (ids l)) → inPast a b → T (has a (earlier b (ids l)))
+  preserved : (l : List Mark) → Standing (pastAt s) l → (a b : MarkId) → T (has b (ids l)) → inPast a b → T (has a (earlier b (ids l)))
   preserved [] h a b tb t = absurd tb
   preserved (m ∷ older) h a b tb t = go (same b (m .id)) refl tb (λ u. preserved older (h .1) a b u t)
     where
@@ -412,24 +363,22 @@ module _ (N : ℕ) (s : List Step) (at : AtDesks N s) where
 -- One desk.
 module _ (N : ℕ) (sd : 1 ≤ N) (s : List Step) (at : AtDesks N s) (d : ℕ) where
   abbrev st : State
-  st = markStateAt N (runMarks N s) d
+  st = stateAt N (run N s) d
 
-  h : Standing (pastIn s) (st .executed)
+  h : Standing (pastAt s) (st .executed)
   h = inv N sd s at .ok d .hist
 
-  each-frame : (P : Mark → Type 0) → ((m : Mark) → Good (pastIn s) m → P m)
-      → All (λ f. P (markIn N (f .bytes))) (map (framed N sd) (runMarks N s .frames))
-  each-frame P f = frames-all N sd s at (λ f. P (markIn N (f .bytes))) (runMarks N s .frames)
-      (all-map {P = Recorded N sd (pastAt N sd s) (registerAt N sd s) (runMarks N s)} (λ m r. rw (fit-back N m (r .fit)) (f m (r .good))) (runMarks N s .frames) (inv N sd s at .frames))
+  each : (P : Mark → Type 0) → ((m : Mark) → Good (pastAt s) m → P m) → All (λ f. P (markIn N (f .bytes))) (run N s .frames)
+  each P f = each-frame N sd s at (λ f. P (markIn N (f .bytes))) (λ m fit r. rw (fit-back N m fit) (f m (r .good)))
 
-  paper-at : PaperAt N s st (map (framed N sd) (runMarks N s .frames))
+  paper-at : PaperAt N s st (run N s .frames)
   paper-at = record {
     vectors = all-map (λ m e. rw e (vector N s at (m .id))) (st .executed ++ st .waiting) (at-desk N sd s at d .stamps);
     preserved = λ a b tb p. preserved N s at (st .executed) h a b tb (in-past N s at p);
-    property-1 = each-frame (IsReady s (st .executed)) (is-ready N s at (st .executed) h);
+    property-1 = each (IsReady s (st .executed)) (is-ready N s at (st .executed) h);
     history = traced N s at (st .executed) h;
-    property-2 = each-frame (TracedWith s (st .executed)) (λ m g n t.
-        traced N s at (m ∷ st .executed) (ready-stands (pastIn s) (st .executed) h m g n (rw (ready-past (pastIn s) (st .executed) h m g) at t), h));
+    property-2 = each (TracedWith s (st .executed)) (λ m g n t.
+        traced N s at (m ∷ st .executed) (ready-stands (pastAt s) (st .executed) h m g n (rw (ready-past (pastAt s) (st .executed) h m g) at t), h));
   }
 
 pub paper : (N : ℕ) → Paper N
@@ -438,7 +387,7 @@ paper N s at = record {
   theorem-1 = theorem-1 N s at;
   definition-4 = vector N s at;
   frames = all-map (λ f e. rw e (vector N s at (f .id))) (run N s .frames) (demand3 N s at .frames);
-  desks = λ d t. let sd = some-desk N d t in rw (same-run N sd s at) (paper-at N sd s at d);
+  desks = λ d t. paper-at N (some-desk N d t) s at d;
 }
 
 -- At the document's count of desks.

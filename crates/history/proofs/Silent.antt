@@ -20,13 +20,13 @@ use Rattle.causality.proofs.Reach.{local, local-hist}
 use Rattle.causality.proofs.Silent.{from-later, silent-leaves-later}
 use Rattle.history.specs.Demand3.{entriesIn}
 use Rattle.history.specs.Evidence.{happenedBefore}
-use Rattle.history.specs.Plain.{DeskLists, look, madeIds}
+use Rattle.history.specs.Plain.{look}
 use Rattle.history.specs.Run.{Run, Step, Written, atDesk, frameAt, handing, marking, run, runStep, stateAt, toFirst, toSecond, written, writtenId}
 use Rattle.history.specs.Silent.{FollowedAlike, FollowedAt, SilentDeskLeaves, listedAt}
-use Rattle.history.proofs.Calls.{MarkCase, declined, granted, made-ids, mark-cases}
-use Rattle.history.proofs.MarkRun.{fresh, look-new, markStateAt, runMarks}
-use Rattle.history.proofs.Sequence.{AtDesks, inv-of, pastAt, plainOf, same-run}
-use Rattle.history.proofs.Theorem.{some-desk}
+use Rattle.history.proofs.Calls.{MarkCase, declined, granted, mark-cases}
+use Rattle.history.proofs.MarkRun.{fresh, look-new}
+use Rattle.history.proofs.Sequence.{AtDesks, inv-of, pastAt, plainOf}
+use Rattle.history.proofs.Theorem.{listed-executed, some-desk}
 
 -- DEMAND 3: at desk x the list is the executed marks, and what happened before is what precedes.
 
@@ -37,17 +37,14 @@ module _ (N : ℕ) (s : List Step) (at : AtDesks N s) (x : ℕ) (tx : T (isDesk 
   sd : 1 ≤ N
   sd = some-desk N x tx
 
-  pub listed-executed : listedAt s x ≡ ids (st .executed)
-  listed-executed = rw (same-run N sd s at) (ap (λ (l : DeskLists). madeIds (l .listed)) (inv-of N sd s at .lists x) ∙ made-ids (pastAt N sd s) ((markStateAt N (runMarks N s) x) .executed))
-
   in-state : (a : MarkId) → T (has a (listedAt s x)) → T (has a (ids (st .executed)))
-  in-state a t = rw listed-executed at t
+  in-state a t = rw (listed-executed N sd s at x) at t
 
   in-list : (a : MarkId) → T (has a (ids (st .executed))) → T (has a (listedAt s x))
-  in-list a t = rw listed-executed t
+  in-list a t = rw (listed-executed N sd s at x) t
 
   pub before-precedes : (a b : MarkId) → T (has b (ids (st .executed))) → precedes (st .executed) a b ≡ happenedBefore (plainOf s .made) a b
-  before-precedes = rw (same-run N sd s at) (precedes-past (pastAt N sd s) ((markStateAt N (runMarks N s) x) .executed) (inv-of N sd s at .ok x .hist))
+  before-precedes = precedes-past (pastAt s) (st .executed) (inv-of N sd s at .ok x .hist)
 
   alike : (d : ℕ) (m : MarkId) → FollowedAt s x d m ↔ FollowedHere st d m
   alike d m = (
@@ -95,9 +92,9 @@ run-from N x (t ∷ s) = from-later N (run-from N x s) (run-later N x (t ∷ [])
 -- What Mark writes has the new mark's stamp.
 mark-writes : (N : ℕ) (sd : 1 ≤ N) (st : State) (b : MarkBox) (lent : List ℕ) (x : ℕ) → Invariant N sd st
     → let o = mark N st b lent in All (λ f. entriesIn N f ≡ newMark st b .stamp) (written x (o .answer) (o .bytes) [])
-mark-writes N sd st b lent x k = go (mark-cases (local (st .executed)) (λ m. Unit {0}) N sd st b lent (local-hist (st .executed) (k .reach .sound)) k)
+mark-writes N sd st b lent x k = go (mark-cases (local (st .executed)) N sd st b lent (local-hist (st .executed) (k .reach .sound)) k)
   where
-    go : MarkCase (local (st .executed)) (λ m. Unit {0}) N st b lent
+    go : MarkCase (local (st .executed)) N st b lent
         → let o = mark N st b lent in All (λ f. entriesIn N f ≡ newMark st b .stamp) (written x (o .answer) (o .bytes) [])
     go (declined c e₁ e₂) = rw e₁ tt
     go (granted n e₁ e₂ fit en) =

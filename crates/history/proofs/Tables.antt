@@ -15,7 +15,8 @@ use Rattle.history.specs.Plain.{MadeMark}
 use Rattle.history.specs.Run.{Step, run, stateAt}
 use Rattle.history.specs.Tables.{PairsHold, PairsOfHistory, madeApart, madeApartAt, madeBeforeAt}
 use Rattle.history.proofs.Sequence.{AtDesks, plainOf}
-use Rattle.history.proofs.Silent.{before-precedes, listed-executed}
+use Rattle.history.proofs.Silent.{before-precedes}
+use Rattle.history.proofs.Theorem.{listed-executed, some-desk}
 
 module _ (N : ℕ) (s : List Step) (at : AtDesks N s) (x : ℕ) (tx : T (isDesk N x)) where
   abbrev st : State
@@ -34,8 +35,8 @@ module _ (N : ℕ) (s : List Step) (at : AtDesks N s) (x : ℕ) (tx : T (isDesk 
   pairs-of-history : (i j : ℕ) → PairsOfHistory N s x i j
   unfolding pairsApart pairsBefore
   pairs-of-history i j = record {
-    apart = rw (listed-executed N s at x tx) (pairs-cong (concurrent (st .executed)) (madeApart made) (ids (st .executed)) apart i j);
-    before = rw (listed-executed N s at x tx) (pairs-cong (precedes (st .executed)) (happenedBefore made) (ids (st .executed)) before i j);
+    apart = rw (listed-executed N (some-desk N x tx) s at x) (pairs-cong (concurrent (st .executed)) (madeApart made) (ids (st .executed)) apart i j);
+    before = rw (listed-executed N (some-desk N x tx) s at x) (pairs-cong (precedes (st .executed)) (happenedBefore made) (ids (st .executed)) before i j);
   }
 
   -- So do a run's first counts after the call.
