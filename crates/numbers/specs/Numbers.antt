@@ -5,7 +5,6 @@ use Rattle.frame.specs.Frame.{editionOf}
 use Rattle.frame.specs.declared.MarkBox.{MarkBox}
 use Rattle.frame.specs.declared.Past.{Past}
 use Rattle.frame.specs.declared.Past.the-variants.{Unsaid, Said}
-use Rattle.rows.specs.inner.Slots.{noBox}
 use Rattle.frame.specs.declared.Reading.{Reading}
 use Rattle.frame.specs.declared.Reading.the-variants.{Fields as IsRead, Refused as NotRead}
 use Rattle.frame.specs.declared.Writing.{Writing}
@@ -80,6 +79,10 @@ editionNumber p = editionOf p .version
 abbrev pub countNumber : Past → ℕ
 countNumber Unsaid = 0
 countNumber (Said n) = n
+
+-- The box beside a refusal.
+abbrev pub noBox : MarkBox
+noBox = record { start = 0; end = 0; low = 0; high = 0 }
 
 -- Refusal, desk, number, box, edition, past count.
 abbrev pub readNumbers : Reading → ℕ × ℕ × ℕ × MarkBox × ℕ × ℕ

@@ -12,7 +12,7 @@ use native.Mathlib.Omega.{arith}
 use Rattle.causality.specs.Marks.{waitingPlaces}
 use Rattle.causality.proofs.Logic.{split}
 use Rattle.rows.specs.View.{ZeroFrom, carriedAt, markAt, pastFrom, view, width}
-use Rattle.rows.specs.inner.Slots.{SameOutside, noBox}
+use Rattle.rows.specs.inner.Slots.{SameOutside}
 use Rattle.rows.specs.inner.Steps.{HasSlot, Stored}
 use Rattle.rows.specs.declared.Held.{Held}
 use Rattle.rows.proofs.Arrays.{mark-same}
@@ -116,7 +116,7 @@ module _ (n : ℕ) (ds ns bs ps ss ds′ ns′ bs′ ps′ ss′ : List ℕ) whe
 
 -- Nothing, as a slot has it.
 abbrev none : Held
-none = record { desk = 0; number = record { 0 = 0 }; extent = noBox; past = 0; row = replicate width 0 }
+none = record { desk = 0; number = record { 0 = 0 }; extent = record { start = 0; end = 0; low = 0; high = 0 }; past = 0; row = replicate width 0 }
 
 -- The last slot is still there when the gaps are closed.
 pub closed-slot : (i count last : ℕ) (ds ns bs ps ss md mn mb mp ms : List ℕ) → count ≡ last + 1 → Queued (queueOf count ds ns bs ps ss)

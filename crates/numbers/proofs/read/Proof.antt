@@ -1,8 +1,7 @@
 -- `read` meets its contract, case by case.
 use mathlib.Core.Path.{_∙_, ap, refl, sym}
 use borrow.Author.Needs.{needs}
-use Rattle.rows.specs.inner.Slots.{noBox}
-use Rattle.numbers.specs.Numbers.{readNumbers}
+use Rattle.numbers.specs.Numbers.{noBox, readNumbers}
 use Rattle.numbers.proofs.read.Statement.{statement}
 use Rattle.numbers.proofs.read.Tie as tie
 

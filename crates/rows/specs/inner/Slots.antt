@@ -8,7 +8,6 @@ use Prim.Native.Nat.{ℕ, _+_, _-_, _*_, _≤_, _<_}
 use lib.Dec.{ltb, eqb}
 use lib.ListN.{length, getD}
 use Rattle.frame.specs.Names.{MarkId, desks}
-use Rattle.frame.specs.declared.MarkBox.{MarkBox}
 use Rattle.causality.specs.State.{Mark}
 use Rattle.causality.specs.Rows.{entriesOfRow}
 use Rattle.rows.specs.declared.Held.{Held}
@@ -29,9 +28,6 @@ heldMark h = record { id = heldId h; extent = h .extent; stamp = entriesOfRow wi
 -- The same mark with another past.
 abbrev pub heldWith : Held → ℕ → Held
 heldWith h p = record { desk = h .desk; number = h .number; extent = h .extent; past = p; row = h .row }
-
-abbrev pub noBox : MarkBox
-noBox = record { start = 0; end = 0; low = 0; high = 0 }
 
 -- Each mark below `count` is of a desk from 1 to n.
 unfoldable pub Named : ℕ → ℕ → List ℕ → Type 0

@@ -10,7 +10,7 @@ use Rattle.abi.proofs.lent.find_apart.Tie as tie
 returns : tie.Need-returns
 returns c own bs ws l s =
     let a = c .before .before .args in
-    subst (λ (x : MarkId). ApartFound (lent (a .count) (a .desks .now) (a .numbers .now) (a .stamps .now) own bs ws) (idOf x) (a .room) (c .apart-list .result)) (c .before .named .ensures)
+    subst (λ (x : MarkId). ApartFound (queriedState (a .count) (a .desks .now) (a .numbers .now) (a .stamps .now) own bs ws) (idOf x) (a .room) (c .apart-list .result)) (c .before .named .ensures)
     (c .apart-list .ensures own bs ws l s)
 
 pub find-apart-spec : {M : Type 1} → statement M
