@@ -264,7 +264,7 @@ pub extern "C" fn kaungimewe_frame_again_lent<'a>(
         (markId a n) (now (out .entry)) (now (out .exit)) r ⌝ }
 {
     let again = named(a, n);
-    numbers::written(in_place::frame_again::write_again(
+    numbers::written(again::frame_again::write_again(
         desks,
         numbers,
         boxes,
@@ -296,7 +296,7 @@ pub extern "C" fn kaungimewe_to2_lent<'a>(
         (againLent (desks .entry) (numbers .entry) (boxes .entry) (pasts .entry) (stamps .entry) (tally .entry) (last .entry) (before .entry))
         (now (frame .entry)) (now (out .entry)) (now (out .exit)) r ⌝ }
 {
-    numbers::written(in_place::convert::to_second(
+    numbers::written(again::convert::to_second(
         desks,
         numbers,
         boxes,

@@ -1,4 +1,4 @@
-// The converter at a desk: a frame of edition 1 becomes one of edition 2. From 2 to 1 it needs no desk: in_place::convert::to_first.
+// The converter at a desk: a frame of edition 1 becomes one of edition 2. From 2 to 1 it needs no desk: again::convert::to_first.
 ghost use Rattle.desk.specs.Promises.{ToSecondPromise};
 ghost use Rattle.desk.specs.StateOf.{Kept};
 use crate::Desk;
@@ -9,7 +9,7 @@ impl Desk {
         requires { ⌜ Kept self ⌝ }
         ensures { λ r. ⌜ ToSecondPromise self (now (frame .entry)) (now (out .entry)) (now (out .exit)) r ⌝ }
     {
-        let answer = in_place::convert::to_second(
+        let answer = again::convert::to_second(
             &self.desks,
             &self.numbers,
             &self.boxes,

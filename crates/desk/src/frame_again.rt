@@ -10,7 +10,7 @@ impl Desk {
         requires { ⌜ Kept self ⌝ }
         ensures { λ r. ⌜ FrameAgainPromise self a (now (out .entry)) (now (out .exit)) r ⌝ }
     {
-        let answer = in_place::frame_again::write_again(
+        let answer = again::frame_again::write_again(
             &self.desks,
             &self.numbers,
             &self.boxes,

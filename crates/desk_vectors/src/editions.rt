@@ -88,7 +88,7 @@ fn to_first(label: &[u8], frame: &[u8], lent: usize) {
     let mut space = [frames::FILL; 36];
     let out: &mut [u8] = &mut space;
     if lent <= out.len() {
-        let answer = in_place::convert::to_first(frame, &mut out[0..lent]);
+        let answer = again::convert::to_first(frame, &mut out[0..lent]);
         converted(label, lent, answer, out);
     }
 }

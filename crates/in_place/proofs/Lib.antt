@@ -2,5 +2,3 @@
 pub mod MarkLaws
 pub mod Marking
 pub mod Receipt
-pub mod FrameAgain
-pub mod Converting

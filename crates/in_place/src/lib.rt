@@ -1,5 +1,3 @@
-// Mark, Receive, Frame again and the converter over a desk's lent arrays, in place.
-pub mod convert;
-pub mod frame_again;
+// Mark and Receive over a desk's lent arrays, in place.
 pub mod mark;
 pub mod receive;

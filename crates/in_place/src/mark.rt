@@ -23,7 +23,7 @@ use rows::PLACES;
 use rows::WIDTH;
 
 // The frame of a mark, as by the writer.
-pub(crate) fn write_mark(h: Held, out: &mut [u8]) -> Writing
+pub fn write_mark(h: Held, out: &mut [u8]) -> Writing
     ensures answer { λ r. ⌜ writing r ≡ sizeOfMark desks (heldMark h) (length (now (out .entry))) ⌝ }
     ensures bytes { λ _. ⌜ now (out .exit)
         ≡ overIf (sizeOfMark desks (heldMark h) (length (now (out .entry)))) (frameOfMark (heldMark h)) (now (out .entry)) ⌝ }

@@ -19,7 +19,7 @@ use rows::WIDTH;
 use waiting::WAITING;
 
 // The mark in a frame that the reader accepted.
-pub(crate) fn mark_in(f: Fields, frame: &[u8]) -> Held
+pub fn mark_in(f: Fields, frame: &[u8]) -> Held
     requires { ⌜ gives f ≡ readFields desks (now frame) ⌝ }
     ensures { λ r. ⌜ heldMark r ≡ markIn desks (now (frame .entry)) ⌝ }
 {

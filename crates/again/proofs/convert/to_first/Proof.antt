@@ -4,9 +4,9 @@ use borrow.Author.Needs.{needs}
 use Rattle.frame.specs.Answer.{gives}
 use Rattle.frame.specs.Frame.{readFields, reading}
 use Rattle.frame.specs.Names.{desks}
-use Rattle.in_place.proofs.Converting.{first-refused, first-same, first-written, said-none, said-some}
-use Rattle.in_place.proofs.convert.to_first.Statement.{statement}
-use Rattle.in_place.proofs.convert.to_first.Tie as tie
+use Rattle.again.proofs.Converting.{first-refused, first-same, first-written, said-none, said-some}
+use Rattle.again.proofs.convert.to_first.Statement.{statement}
+use Rattle.again.proofs.convert.to_first.Tie as tie
 
 mark-in-requires : tie.Need-mark-in-requires
 mark-in-requires c κs = sym (ap reading (c .before .f .given .1)) ∙ c .before .before .before .fields .ensures

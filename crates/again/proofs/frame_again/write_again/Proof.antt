@@ -15,10 +15,10 @@ use Rattle.waiting.specs.declared.Waiting.{Waiting}
 use Rattle.executed.specs.Arrays.{Arrays}
 use Rattle.verdict.specs.Kept.{KeptIn, stateIn}
 use Rattle.verdict.proofs.Invariant.{kept-count, kept-lent}
 use Rattle.in_place.specs.Lent.{againLent}
-use Rattle.in_place.proofs.FrameAgain.{not-executed, written-again}
-use Rattle.in_place.proofs.frame_again.write_again.Statement.{statement}
-use Rattle.in_place.proofs.frame_again.write_again.Tie as tie
+use Rattle.again.proofs.FrameAgain.{not-executed, written-again}
+use Rattle.again.proofs.frame_again.write_again.Statement.{statement}
+use Rattle.again.proofs.frame_again.write_again.Tie as tie
 
 -- The arrays of a desk that lends them.
 abbrev marks : tie.Start → ℕ × List ℕ → Arrays

@@ -17,10 +17,10 @@ use Rattle.executed.specs.Arrays.{Arrays}
 use Rattle.waiting.specs.declared.Waiting.{Waiting}
 use Rattle.verdict.specs.Kept.{KeptIn, stateIn}
 use Rattle.verdict.proofs.Invariant.{kept-count, kept-lent}
 use Rattle.in_place.specs.Lent.{againLent}
-use Rattle.in_place.proofs.Converting.{kept-absent, kept-differs, kept-written}
-use Rattle.in_place.proofs.convert.write_kept.Statement.{statement}
-use Rattle.in_place.proofs.convert.write_kept.Tie as tie
+use Rattle.again.proofs.Converting.{kept-absent, kept-differs, kept-written}
+use Rattle.again.proofs.convert.write_kept.Statement.{statement}
+use Rattle.again.proofs.convert.write_kept.Tie as tie
 
 -- The arrays of a desk that lends them.
 abbrev marks : tie.Start → ℕ × List ℕ → Arrays

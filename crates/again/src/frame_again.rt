@@ -1,10 +1,10 @@
 // Frame again over a desk's lent arrays: the frame of an executed mark is written out.
 ghost use Rattle.in_place.specs.Lent.{SomeDesk, againLent};
 ghost use Rattle.in_place.specs.inner.Steps.{AgainIn, EachState};
-use crate::mark;
 use frame::MarkId;
 use frame::Refusal;
 use frame::Writing;
+use in_place::mark;
 use rows::BOX;
 use rows::PLACES;
 use rows::WIDTH;

@@ -8,10 +8,10 @@ use Rattle.frame.specs.Frame.{readFields, reading}
 use Rattle.frame.specs.Names.{desks}
 use Rattle.executed.specs.Arrays.{Arrays}
 use Rattle.verdict.specs.Kept.{stateIn}
 use Rattle.in_place.specs.Lent.{againLent}
-use Rattle.in_place.proofs.Converting.{said-none, said-some, second-kept, second-refused, second-same}
-use Rattle.in_place.proofs.convert.to_second.Statement.{statement}
-use Rattle.in_place.proofs.convert.to_second.Tie as tie
+use Rattle.again.proofs.Converting.{said-none, said-some, second-kept, second-refused, second-same}
+use Rattle.again.proofs.convert.to_second.Statement.{statement}
+use Rattle.again.proofs.convert.to_second.Tie as tie
 
 -- The arrays of a desk that lends them.
 abbrev marks : tie.Start → ℕ × List ℕ → Arrays

@@ -1,0 +1,3 @@
+-- The modules of the laws and proofs.
+pub mod FrameAgain
+pub mod Converting
