@@ -5,22 +5,12 @@ use mathlib.Core.List.{List, [], _∷_, map}
 use mathlib.Core.Option.{Option, Option·map, none, some}
 use mathlib.Core.Path.{_∙_, _≡_, refl}
 use Rattle.frame.specs.Names.{MarkId}
-use Rattle.causality.specs.Marks.{All, find, lower, lowest, same, without}
+use Rattle.causality.specs.Marks.{All, lower, lowest, same, without}
 
 module _ {A B : Type 0} (nameA : A → MarkId) (nameB : B → MarkId) (image : A → B) (named : (x : A) → nameB (image x) ≡ nameA x) where
   pub names-image : (ws : List A) → map nameB (map image ws) ≡ map nameA ws
   names-image [] = refl
   names-image (v ∷ vs) = let e = named v in let r = names-image vs in λ i. e i ∷ r i
-
-  pub find-image : (i : MarkId) (ws : List A) → find nameB i (map image ws) ≡ Option·map image (find nameA i ws)
-  find-image i [] = refl
-  find-image i (v ∷ vs) =
-      (λ j. elim (same i (named v j)) [ true ↦ some (image v) | false ↦ find nameB i (map image vs) ]) ∙ go (same i (nameA v)) (find-image i vs)
-    where
-      go : (b : Bool) → find nameB i (map image vs) ≡ Option·map image (find nameA i vs)
-          → elim b [ true ↦ some (image v) | false ↦ find nameB i (map image vs) ] ≡ Option·map image (elim b [ true ↦ some v | false ↦ find nameA i vs ])
-      go true ih = refl
-      go false ih = ih
 
   pub without-image : (i : MarkId) (ws : List A) → without nameB i (map image ws) ≡ map image (without nameA i ws)
   without-image i [] = refl

@@ -21,7 +21,6 @@ use Rattle.history.specs.Demand3.{Agree}
 use Rattle.history.specs.Plain.{look, ofMark, ofReceive, plain}
 use Rattle.history.specs.Run.{Run, Step, atDesk, converted, fed, handing, marking, run, runStep, stateAt, toFirst, toSecond, withoutMissing, written}
 use Rattle.history.proofs.Evidence.{evidence-holds}
-use Rattle.history.proofs.MarkRun.{fresh}
 use Rattle.history.proofs.Silent.{silent-desk-leaves}
 use Rattle.history.proofs.Tables.{tables-of-history}
 use Rattle.history.proofs.Theorem.{consequences, demand3}

@@ -65,12 +65,9 @@ module _ (past : MarkId → List MarkId) where
   pub made-ids : (ms : List Mark) → madeIds (map madeOf ms) ≡ ids ms
   made-ids = names-image markId madeId madeOf made-named
 
-  listed-past : (l : List Mark) (m : Mark) → pastListed (map madeOf l) (madeOf m) ≡ all (λ a. has a (ids l)) (past (m .id))
-  unfolding madeOf pastListed
-  listed-past l m = ap (λ (ns : List MarkId). all (λ a. has a ns) (past (m .id))) (made-ids l)
-
   listed-ready : (l : List Mark) → Standing past l → (m : Mark) → Good past m → pastListed (map madeOf l) (madeOf m) ≡ ready l m
-  listed-ready l h m g = listed-past l m ∙ sym (ready-past past l h m g)
+  unfolding madeOf pastListed
+  listed-ready l h m g = ap (λ (ns : List MarkId). all (λ a. has a ns) (past (m .id))) (made-ids l) ∙ sym (ready-past past l h m g)
 
   abbrev pub listsOf : State → DeskLists
   listsOf d = record { listed = map madeOf (d .executed); waiting = map madeOf (d .waiting) }

@@ -1,7 +1,7 @@
 -- Order 5: the evidence behind a verdict holds in the history. Assumes nothing.
 use Prim.Native.Nat.{_≤_, ℕ}
 use lib.ListN.{length}
-use mathlib.Core.List.{List, [], _++_, _∷_}
+use mathlib.Core.List.{List}
 use Rattle.frame.specs.Names.{MarkId}
 use Rattle.causality.specs.Evidence.{evidence, evidencePairs}
 use Rattle.causality.specs.State.{State, markId}
@@ -29,14 +29,14 @@ module _ (N : ℕ) (some-desk : 1 ≤ N) (s : List Step) (at : AtDesks N s) (d :
   agrees : Agrees (lastOfPast made) (happenedBefore made) (ofPast made) (st .executed)
   unfolding lastOfPast
   agrees = record {
-    stamps = all-map (λ m k. k .stamp) (st .executed) (inv .ok d .ks);
-    precedence = precedes-past (pastOf made) (st .executed) (inv .ok d .hist);
-    counts = λ e b t. in-past-of (pastOf made) (st .executed) (inv .ok d .hist) e b t
-        (all-names markId (λ i. Once (pastOf made i)) (st .executed) (all-map (λ m k. k .once) (st .executed) (inv .ok d .ks)) b t);
+    stamps = all-map (λ m k. k .stamp) (st .executed) (inv .desks d .ok .ks);
+    precedence = precedes-past (pastOf made) (st .executed) (inv .desks d .ok .hist);
+    counts = λ e b t. in-past-of (pastOf made) (st .executed) (inv .desks d .ok .hist) e b t
+        (all-names markId (λ i. Once (pastOf made i)) (st .executed) (all-map (λ m k. k .once) (st .executed) (inv .desks d .ok .ks)) b t);
   }
 
   proved-by : (a b : MarkId) (lent : List MarkId) → ProvedBy made (listsAt (plainOf s) d) a b lent (evidence st a b (length lent)) (evidencePairs st a b lent)
-  proved-by a b lent = rw (at-desk N some-desk s at d .relates a b) at (proves (lastOfPast made) (happenedBefore made) (ofPast made) st (inv .kept d .reach .sound) agrees a b lent)
+  proved-by a b lent = rw (at-desk N some-desk s at d .relates a b) at (proves (lastOfPast made) (happenedBefore made) (ofPast made) st (inv .desks d .kept .reach .sound) agrees a b lent)
 
 pub evidence-holds : (N : ℕ) → EvidenceHolds N
 evidence-holds N s at d t a b lent = proved-by N (some-desk N d t) s at d a b lent

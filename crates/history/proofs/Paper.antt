@@ -140,13 +140,13 @@ module _ (N : ℕ) (sd : 1 ≤ N) (s : List Step) (at : AtDesks N s) where
   of-made : (P : MarkId → Type 0) → ((m : Mark) → Recorded (pastAt s) (plainOf s .made) m → Fit N m → P (m .id)) → (b : MarkId) → T (has b (madeIn s)) → P b
   of-made P f b t =
       let l = executedAt (b .desk) in
-      all-names markId P l (all-both {P = Recorded (pastAt s) (plainOf s .made)} f l (inv .ok (b .desk) .ks) (inv .kept (b .desk) .executed)) b (own-executed b t)
+      all-names markId P l (all-both {P = Recorded (pastAt s) (plainOf s .made)} f l (inv .desks (b .desk) .ok .ks) (inv .desks (b .desk) .kept .executed)) b (own-executed b t)
 
   own-listed : (b : MarkId) → T (has b (madeIn s)) → T (has b (listedAt s (b .desk)))
   own-listed b t = rw (listed-executed N sd s at (b .desk)) (own-executed b t)
 
   listed-made : (d : ℕ) (a : MarkId) → T (has a (listedAt s d)) → T (has a (madeIn s))
-  listed-made d a t = all-names markId (λ i. T (has i (madeIn s))) (executedAt d) (all-map (recorded-made (pastAt s) (plainOf s .made)) (executedAt d) (inv .ok d .ks)) a (rw (listed-executed N sd s at d) at t)
+  listed-made d a t = all-names markId (λ i. T (has i (madeIn s))) (executedAt d) (all-map (recorded-made (pastAt s) (plainOf s .made)) (executedAt d) (inv .desks d .ok .ks)) a (rw (listed-executed N sd s at d) at t)
 
   -- "its past is the desk's list".
   past-listed : {moment : List Step} {b : MarkId} → MadeAt s moment b → pastAt s b ≡ listedAt moment (b .desk)
@@ -250,7 +250,7 @@ module _ (N : ℕ) (s : List Step) (at : AtDesks N s) where
           let t = in-past p in
           let made = past-made (plainOf s .made) a b t in
           let sd = desk-of b made in
-          chains (executedAt N sd s at (b .desk)) (inv N sd s at .ok (b .desk) .hist) b (own-executed N sd s at b made) a t sa sb,
+          chains (executedAt N sd s at (b .desk)) (inv N sd s at .desks (b .desk) .ok .hist) b (own-executed N sd s at b made) a t sa sb,
       along,
     )
 
@@ -366,7 +366,7 @@ module _ (N : ℕ) (sd : 1 ≤ N) (s : List Step) (at : AtDesks N s) (d : ℕ) w
   st = stateAt N (run N s) d
 
   h : Standing (pastAt s) (st .executed)
-  h = inv N sd s at .ok d .hist
+  h = inv N sd s at .desks d .ok .hist
 
   each : (P : Mark → Type 0) → ((m : Mark) → Good (pastAt s) m → P m) → All (λ f. P (markIn N (f .bytes))) (run N s .frames)
   each P f = each-frame N sd s at (λ f. P (markIn N (f .bytes))) (λ m fit r. rw (fit-back N m fit) (f m (r .good)))

@@ -24,7 +24,7 @@ use Rattle.history.specs.Plain.{look}
 use Rattle.history.specs.Run.{Run, Step, Written, atDesk, frameAt, handing, marking, run, runStep, stateAt, toFirst, toSecond, written, writtenId}
 use Rattle.history.specs.Silent.{FollowedAlike, FollowedAt, SilentDeskLeaves, listedAt}
 use Rattle.history.proofs.Calls.{MarkCase, declined, granted, mark-cases}
-use Rattle.history.proofs.MarkRun.{fresh, look-new}
+use Rattle.history.proofs.Lookup.{fresh, look-new}
 use Rattle.history.proofs.Sequence.{AtDesks, inv-of, pastAt, plainOf}
 use Rattle.history.proofs.Theorem.{listed-executed, some-desk}
 
@@ -44,7 +44,7 @@ module _ (N : ℕ) (s : List Step) (at : AtDesks N s) (x : ℕ) (tx : T (isDesk 
   in-list a t = rw (listed-executed N sd s at x) t
 
   pub before-precedes : (a b : MarkId) → T (has b (ids (st .executed))) → precedes (st .executed) a b ≡ happenedBefore (plainOf s .made) a b
-  before-precedes = precedes-past (pastAt s) (st .executed) (inv-of N sd s at .ok x .hist)
+  before-precedes = precedes-past (pastAt s) (st .executed) (inv-of N sd s at .desks x .ok .hist)
 
   alike : (d : ℕ) (m : MarkId) → FollowedAt s x d m ↔ FollowedHere st d m
   alike d m = (

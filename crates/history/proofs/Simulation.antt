@@ -19,24 +19,24 @@ use Rattle.causality.proofs.Conversions.{first-front, first-read, first-size, s
 use Rattle.causality.proofs.Fit.{fit-back, fit-front, fit-read, markSize}
 use Rattle.causality.specs.inner.Fit.{Fit}
 use Rattle.causality.proofs.Invariant.{Invariant, fit-with, kept, mark-kept, receive-mark-kept}
-use Rattle.causality.proofs.Lists.{Picked, all-names, all-map, any-cong, any-find, find-all, has-self, ids-length, keep-cong}
+use Rattle.causality.proofs.Lists.{Picked, all-names, all-map, any-cong, any-find, find-all, find-has, has-self, ids-length, keep-cong}
 use Rattle.causality.proofs.Logic.{T→eq, and-yes, eqb-yes, nT→eq, or-inl, or-inr, same-refl, same→eq}
 use Rattle.causality.proofs.Past.{Stands, counted, new-stands, precedes-past, prefix-le}
 use Rattle.causality.proofs.Reckoning.{Once, counted-once}
 use Rattle.history.specs.Demand3.{converts}
 use Rattle.history.specs.Plain.{DeskLists, History, MadeMark, StepAnswer, Unmade, handOver, handOverAt, listsAt, look, madeId, madeIds, making, makingAt, newMade, ofMark, ofReceive, plain, plainStep, plainStepBy}
 use Rattle.history.specs.Run.{Run, Written, converted, frameAt, handing, marking, run, runStep, stateAt, toFirst, toSecond, withoutMissing, writtenId}
-use Rattle.history.proofs.Calls.{Consistent, Grows, MarkCase, Recorded, declined, granted, lastAmong, listsOf, made-ids, madeOf, mark-cases, neither, new-made, one, others, receive-ok, recorded-made, recorded-more, recorded-with}
-use Rattle.history.proofs.MarkRun.{frame-has, fresh, look-both, look-new, picked}
+use Rattle.history.proofs.Calls.{Consistent, Grows, MarkCase, Recorded, declined, granted, listsOf, made-ids, madeOf, mark-cases, neither, new-made, one, others, receive-ok, recorded-made, recorded-more, recorded-with}
+use Rattle.history.proofs.Lookup.{frame-has, fresh, look-both, look-new, picked}
 
 -- A mark's own desk has executed it.
-abbrev pub Within : ℕ → Run → MarkId → Type 0
+abbrev Within : ℕ → Run → MarkId → Type 0
 Within N r i = T (has i (ids ((stateAt N r (i .desk)) .executed)))
 
 abbrev pub framed : Mark → Written
 framed m = record { id = m .id; bytes = frameOfMark m }
 
-abbrev pub HasFrame : List Written → MadeMark → Type 0
+abbrev HasFrame : List Written → MadeMark → Type 0
 HasFrame fs x = T (any (λ f. same (x .id) (f .id)) fs)
 
 -- What a conversion answers.
@@ -58,14 +58,18 @@ module _ (N : ℕ) (some-desk : 1 ≤ N) (past : MarkId → List MarkId) where
     pub fit : Fit N mark
     pub k : Recorded past made mark
 
+  -- Desk d in state x has the lists ls of the history.
+  pub record Follows (made : List MadeMark) (d : ℕ) (ls : DeskLists) (x : State) : Type 0 where
+    pub own : isDesk N d ≡ true → x .own ≡ d
+    pub kept : Invariant N some-desk x
+    pub ok : Consistent past made (x .executed) (x .waiting)
+    pub lists : ls ≡ listsOf past x
+
   pub record Inv (r : Run) (h : History) : Type 0 where
-    pub own : (d : ℕ) → isDesk N d ≡ true → (stateAt N r d) .own ≡ d
-    pub kept : (d : ℕ) → Invariant N some-desk (stateAt N r d)
-    pub ok : (d : ℕ) → Consistent past (h .made) ((stateAt N r d) .executed) ((stateAt N r d) .waiting)
+    pub desks : (d : ℕ) → Follows (h .made) d (listsAt h d) (stateAt N r d)
     pub frames : All (Spelt (h .made)) (r .frames)
     pub whole : All (HasFrame (r .frames)) (h .made)
     pub reached : All (λ x. Within N r (x .id)) (h .made)
-    pub lists : (d : ℕ) → listsAt h d ≡ listsOf past (stateAt N r d)
     pub answers : r .answers ≡ h .answers
     pub conversions : All (λ a. T (converts a)) (r .conversions)
 
@@ -80,13 +84,11 @@ module _ (N : ℕ) (some-desk : 1 ≤ N) (past : MarkId → List MarkId) where
 
   pub start : Inv (run N []) (plain [])
   start = record {
-    own = λ d. fresh-is (λ x. isDesk N d ≡ true → x .own ≡ d) d (λ e p. p);
-    kept = λ d. kept N some-desk (begun d);
-    ok = λ d. fresh-is (λ x. Consistent past [] (x .executed) (x .waiting)) d (λ e p. record { hist = tt; ks = tt; lacks = tt });
+    desks = λ d. fresh-is (λ x. Invariant N some-desk x → Follows [] d (record { listed = []; waiting = [] }) x) d
+        (λ e o k. record { own = o; kept = k; ok = record { hist = tt; ks = tt; lacks = tt }; lists = refl }) (kept N some-desk (begun d));
     frames = tt;
     whole = tt;
     reached = tt;
-    lists = λ d. fresh-is (λ x. record { listed = []; waiting = [] } ≡ listsOf past x) d (λ e p. refl);
     answers = refl;
     conversions = tt;
   }
@@ -97,13 +99,10 @@ module _ (N : ℕ) (some-desk : 1 ≤ N) (past : MarkId → List MarkId) where
     still : (fs : List Written) → All (Spelt (h .made)) fs → All (HasFrame fs) (h .made) → (as′ bs : List StepAnswer) → as′ ≡ bs → (cs : List (Answer ℕ)) → All (λ a. T (converts a)) cs
         → Inv (record { states = r .states; frames = fs; answers = as′; conversions = cs }) (record { lists = h .lists; made = h .made; answers = bs })
     still fs sp wh as′ bs e cs c = record {
-      own = inv .own;
-      kept = inv .kept;
-      ok = inv .ok;
+      desks = inv .desks;
       frames = sp;
       whole = wh;
       reached = inv .reached;
-      lists = inv .lists;
       answers = e;
       conversions = c;
     }
@@ -139,13 +138,15 @@ module _ (N : ℕ) (some-desk : 1 ≤ N) (past : MarkId → List MarkId) where
       where
         go : (o : Option MadeMark) → find madeId i (h .made) ≡ o → o ≡ none
         go none q = refl
-        go (some x) q =
-            let p = subst (Picked (HasFrame (r .frames)) (λ v. same i (v .id))) q (find-all madeId (HasFrame (r .frames)) i (h .made) (inv .whole)) in
-            absurd (rw (← same→eq i (x .id) (p .1), ← frame-has writtenId i k (r .frames), e) at (p .0))
+        go (some x) q = absurd (rw (← frame-has writtenId i k (r .frames), e) at
+            (all-names madeId (λ j. T (any (λ f. same j (f .id)) (r .frames))) (h .made) (inv .whole) i (rw (find-has madeId i (h .made), q) tt)))
 
     module _ (d : ℕ) where
       abbrev st : State
       st = stateAt N r d
+
+      now : Follows (h .made) d (listsAt h d) st
+      now = inv .desks d
 
       -- DESK d BECOMES x
 
@@ -156,30 +157,30 @@ module _ (N : ℕ) (some-desk : 1 ≤ N) (past : MarkId → List MarkId) where
         grow : (i : MarkId) → Within N r i → Within N after i
         grow i k = look-new (λ e y. T (has i (ids ((stateAt N r e) .executed))) → T (has i (ids (y .executed)))) (fresh N) (r .states) d x (g i) (i .desk) (λ t. t) k
 
-        put : x .own ≡ st .own → Invariant N some-desk x → (ys : List MadeMark) → ((m : Mark) → Recorded past (h .made) m → Recorded past ys m)
-            → Consistent past ys (x .executed) (x .waiting) → All (Spelt ys) fs → All (HasFrame fs) ys → All (λ y. Within N after (y .id)) ys
-            → (l : DeskLists) → l ≡ listsOf past x → Inv after (record { lists = (d, l) ∷ h .lists; made = ys; answers = a ∷ h .answers })
-        put o kx ys mono k sp wh re l e₁ = record {
-          own = λ e. look-new (λ e y. isDesk N e ≡ true → y .own ≡ e) (fresh N) (r .states) d x (λ t. o ∙ inv .own d t) e (inv .own e);
-          kept = λ e. look-new (λ e y. Invariant N some-desk y) (fresh N) (r .states) d x kx e (inv .kept e);
-          ok = λ e. look-new (λ e y. Consistent past ys (y .executed) (y .waiting)) (fresh N) (r .states) d x k e (record {
-            hist = inv .ok e .hist;
-            ks = all-map mono ((stateAt N r e) .executed) (inv .ok e .ks);
-            lacks = all-map (λ m u. record { fresh = u .fresh; k = mono m (u .k) }) ((stateAt N r e) .waiting) (inv .ok e .lacks);
+        put : (ys : List MadeMark) → ((m : Mark) → Recorded past (h .made) m → Recorded past ys m) → (l : DeskLists) → Follows ys d l x
+            → All (Spelt ys) fs → All (HasFrame fs) ys → All (λ y. Within N after (y .id)) ys → Inv after (record { lists = (d, l) ∷ h .lists; made = ys; answers = a ∷ h .answers })
+        put ys mono l k sp wh re = record {
+          desks = λ e. let u = inv .desks e in look-both (Follows ys) (λ n. record { listed = []; waiting = [] }) (fresh N) (h .lists) (r .states) d l x k e (record {
+            own = u .own;
+            kept = u .kept;
+            ok = record {
+              hist = u .ok .hist;
+              ks = all-map mono ((stateAt N r e) .executed) (u .ok .ks);
+              lacks = all-map (λ m v. record { fresh = v .fresh; k = mono m (v .k) }) ((stateAt N r e) .waiting) (u .ok .lacks);
+            };
+            lists = u .lists;
           });
           frames = sp;
           whole = wh;
           reached = re;
-          lists = λ e. ap (λ (l : DeskLists). look (λ n. record { listed = []; waiting = [] }) ((d, l) ∷ h .lists) e) e₁
-              ∙ look-both (listsOf past) (λ n. record { listed = []; waiting = [] }) (fresh N) (h .lists) (r .states) d x e (inv .lists e);
           answers = ap (λ (l : List StepAnswer). a ∷ l) (inv .answers);
           conversions = inv .conversions;
         }
 
       -- No mark is made.
-      keep-made : (x : State) (a : StepAnswer) → Grows (st .executed) (x .executed) → x .own ≡ st .own → Invariant N some-desk x → Consistent past (h .made) (x .executed) (x .waiting) → (l : DeskLists) → l ≡ listsOf past x
+      keep-made : (x : State) (a : StepAnswer) → Grows (st .executed) (x .executed) → (l : DeskLists) → Follows (h .made) d l x
           → Inv (record { states = (d, x) ∷ r .states; frames = r .frames; answers = a ∷ r .answers; conversions = r .conversions }) (record { lists = (d, l) ∷ h .lists; made = h .made; answers = a ∷ h .answers })
-      keep-made x a g o kx k l e = put x (r .frames) a g o kx (h .made) (λ m u. u) k (inv .frames) (inv .whole) (all-map (λ y u. grow x (r .frames) a g (y .id) u) (h .made) (inv .reached)) l e
+      keep-made x a g l k = put x (r .frames) a g (h .made) (λ m u. u) l k (inv .frames) (inv .whole) (all-map (λ y u. grow x (r .frames) a g (y .id) u) (h .made) (inv .reached))
 
       module _ (td : isDesk N d ≡ true) where
         -- A HAND-OVER
@@ -188,8 +189,8 @@ module _ (N : ℕ) (some-desk : 1 ≤ N) (past : MarkId → List MarkId) where
         own-within : (i : MarkId) → T (has i (madeIds (h .made))) → i .desk ≡ st .own → i .number ≤ tally (st .own) (ids (st .executed))
         own-within i t p =
             let l = st .executed in
-            let k = subst (λ (n : ℕ). T (has i (ids ((stateAt N r n) .executed)))) (p ∙ inv .own d td) (all-names madeId (Within N r) (h .made) (inv .reached) i t) in
-            subst (λ (n : ℕ). i .number ≤ tally n (ids l)) p (prefix-le (ids l) (counted past l (inv .ok d .hist)) i k .1)
+            let k = subst (λ (n : ℕ). T (has i (ids ((stateAt N r n) .executed)))) (p ∙ now .own td) (all-names madeId (Within N r) (h .made) (inv .reached) i t) in
+            subst (λ (n : ℕ). i .number ≤ tally n (ids l)) p (prefix-le (ids l) (counted past l (now .ok .hist)) i k .1)
 
         made-no : (i : MarkId) → T (has i (madeIds (h .made))) → T (not (unmade st i))
         unfolding unmade
@@ -222,13 +223,13 @@ module _ (N : ℕ) (some-desk : 1 ≤ N) (past : MarkId → List MarkId) where
                 let mm = p .0 .k in
                 let j : m .id ≡ i = ap writtenId (sym (p .0 .spells)) ∙ sym (same→eq i (f .id) (p .1)) in
                 let found : find madeId i (h .made) ≡ some (madeOf past m) = subst (λ (j : MarkId). find madeId j (h .made) ≡ some (madeOf past m)) j (mm .found) in
-                let c = receive-ok past (h .made) st m (inv .ok d) mm (none-unmade m mm) in
+                let c = receive-ok past (h .made) st m (now .ok) mm (none-unmade m mm) in
                 let q : handOver (listsAt h d) (madeOf past m) ≡ record { lists = listsOf past ((receiveMark st m) .state); answer = withoutMissing ((receiveMark st m) .answer) }
-                = ap (λ (p : DeskLists). handOver p (madeOf past m)) (inv .lists d) ∙ c .sim in
+                = ap (λ (p : DeskLists). handOver p (madeOf past m)) (now .lists) ∙ c .sim in
                 let b : receive N st (f .bytes) ≡ receiveMark st m = ap (λ (v : Written). receive N st (v .bytes)) (p .0 .spells) ∙ receive-frame m (p .0 .fit) in
                 rw (e, runStep) (rw (found, plainStepBy) (rw (b, q)
-                (keep-made ((receiveMark st m) .state) (ofReceive (withoutMissing ((receiveMark st m) .answer))) (c .grows) (c .own) (receive-mark-kept N some-desk st m (p .0 .fit) (inv .kept d)) (c .ok)
-                (listsOf past ((receiveMark st m) .state)) refl)))
+                (keep-made ((receiveMark st m) .state) (ofReceive (withoutMissing ((receiveMark st m) .answer))) (c .grows) (listsOf past ((receiveMark st m) .state))
+                (record { own = λ t. c .own ∙ now .own t; kept = receive-mark-kept N some-desk st m (p .0 .fit) (now .kept); ok = c .ok; lists = refl }))))
 
         -- A CONVERSION AT A DESK
 
@@ -248,8 +249,8 @@ module _ (N : ℕ) (some-desk : 1 ≤ N) (past : MarkId → List MarkId) where
 
             held : (v : Mark) → find markId (m .id) (st .executed) ≡ some v → Fit N v × Recorded past (h .made) v × m .id ≡ v .id
             held v e =
-                let p = subst (Picked (Recorded past (h .made)) (λ v. same (m .id) (v .id))) e (find-all markId (Recorded past (h .made)) (m .id) (st .executed) (inv .ok d .ks)) in
-                let q = subst (Picked (Fit N) (λ v. same (m .id) (v .id))) e (find-all markId (Fit N) (m .id) (st .executed) (inv .kept d .executed)) in
+                let p = subst (Picked (Recorded past (h .made)) (λ v. same (m .id) (v .id))) e (find-all markId (Recorded past (h .made)) (m .id) (st .executed) (now .ok .ks)) in
+                let q = subst (Picked (Fit N) (λ v. same (m .id) (v .id))) e (find-all markId (Fit N) (m .id) (st .executed) (now .kept .executed)) in
                 (q .0, p .0, same→eq (m .id) (v .id) (p .1))
 
             answered : (o : Option Mark) → find markId (m .id) (st .executed) ≡ o → T (converts (toSecondMark N st m (length lent)))
@@ -272,11 +273,7 @@ module _ (N : ℕ) (some-desk : 1 ≤ N) (past : MarkId → List MarkId) where
 
           new-id : (newMade d (listsAt h d) box) .id ≡ newAt .id
           unfolding newMade newMark
-          new-id = rw (inv .lists d, made-ids past (st .executed), inv .own d td)
-
-          new-past : (newMade d (listsAt h d) box) .past ≡ ids (st .executed)
-          unfolding newMade
-          new-past = rw (inv .lists d, made-ids past (st .executed))
+          new-id = rw (now .lists, made-ids past (st .executed), now .own td)
 
           -- Its name is new.
           absent : T (not (has (newAt .id) (madeIds (h .made))))
@@ -295,33 +292,29 @@ module _ (N : ℕ) (some-desk : 1 ≤ N) (past : MarkId → List MarkId) where
             more = recorded-more past (h .made) (madeOf past newAt) absent
 
             stands : Stands past newAt (st .executed)
-            stands = new-stands past st box (inv .ok d .hist) ep
+            stands = new-stands past st box (now .ok .hist) ep
 
             -- Its stamp is the heads, and these are the last ones of its past.
-            last-ones : newAt .stamp ≡ lastAmong past (past (newAt .id))
-            unfolding newMark heads isHead
-            last-ones = let l = st .executed in rw ep (ap rising (keep-cong _ _ (ids l) (λ e me. ap not (any-cong _ _ (ids l) (λ k mk. precedes-past past l (inv .ok d .hist) e k mk)))))
-
             new-recorded : Recorded past made′ newAt
-            unfolding newMark madeOf
+            unfolding newMark madeOf heads isHead
             new-recorded = let l = st .executed in record {
               good = stands .good;
-              stamp = last-ones;
-              once = subst Once (sym ep) (counted-once (ids l) (counted past l (inv .ok d .hist)));
+              stamp = rw ep (ap rising (keep-cong _ _ (ids l) (λ e me. ap not (any-cong _ _ (ids l) (λ k mk. precedes-past past l (now .ok .hist) e k mk)))));
+              once = subst Once (sym ep) (counted-once (ids l) (counted past l (now .ok .hist)));
               honest = subst (λ (n : ℕ). T (eqb (length l) n)) (sym (ap length ep ∙ ids-length l)) (eqb-refl (length l));
               found = rw (T→eq (same (newAt .id) (newAt .id)) (same-refl (newAt .id)), find) refl;
               below = λ b t. or-inr (same b (newAt .id)) (has b (madeIds (h .made)))
-                  (all-names markId (λ i. T (has i (madeIds (h .made)))) l (all-map (recorded-made past (h .made)) l (inv .ok d .ks)) b (rw ep at t));
+                  (all-names markId (λ i. T (has i (madeIds (h .made)))) l (all-map (recorded-made past (h .made)) l (now .ok .ks)) b (rw ep at t));
             }
 
             new-ok : Consistent past made′ (newAt ∷ st .executed) (st .waiting)
             new-ok = let l = st .executed in record {
-              hist = (stands, inv .ok d .hist);
-              ks = (new-recorded, all-map more l (inv .ok d .ks));
+              hist = (stands, now .ok .hist);
+              ks = (new-recorded, all-map more l (now .ok .ks));
               lacks = all-map (λ m x. record {
                 fresh = neither (m .id) (newAt .id) (ids l) (others (newAt .id) (m .id) (madeIds (h .made)) absent (recorded-made past (h .made) m (x .k))) (x .fresh);
                 k = more m (x .k);
-              }) (st .waiting) (inv .ok d .lacks);
+              }) (st .waiting) (now .ok .lacks);
             }
 
             grows : Grows (st .executed) (newAt ∷ st .executed)
@@ -332,37 +325,37 @@ module _ (N : ℕ) (some-desk : 1 ≤ N) (past : MarkId → List MarkId) where
                 → Inv (record { states = (d, execute newAt st) ∷ r .states; frames = f ∷ r .frames; answers = a ∷ r .answers; conversions = r .conversions })
                 (record { lists = (d, l) ∷ h .lists; made = y ∷ h .made; answers = a ∷ h .answers })
             unfolding madeOf newMark
-            granted-ok a kx f ef y ey l el = rw (ef, ey) (put (execute newAt st) (framed newAt ∷ r .frames) a grows refl kx made′ more new-ok
+            granted-ok a kx f ef y ey l el = rw (ef, ey) (put (execute newAt st) (framed newAt ∷ r .frames) a grows made′ more l (record { own = now .own; kept = kx; ok = new-ok; lists = el })
                 (record { mark = newAt; spells = refl; fit = fit; k = new-recorded }, all-map (λ f s. record { mark = s .mark; spells = s .spells; fit = s .fit; k = more (s .mark) (s .k) }) (r .frames) (inv .frames)) (
                   or-inl (same (newAt .id) (newAt .id)) (any (λ f. same (newAt .id) (f .id)) (r .frames)) (same-refl (newAt .id)),
                   all-map (λ x u. or-inr (same (x .id) (newAt .id)) (any (λ f. same (x .id) (f .id)) (r .frames)) u) (h .made) (inv .whole),
                 )
-                (within, all-map (λ y u. grow (execute newAt st) (framed newAt ∷ r .frames) a grows (y .id) u) (h .made) (inv .reached)) l el)
+                (within, all-map (λ y u. grow (execute newAt st) (framed newAt ∷ r .frames) a grows (y .id) u) (h .made) (inv .reached)))
               where
                 within : Within N (after (execute newAt st) (framed newAt ∷ r .frames) a grows) (newAt .id)
-                within = subst (λ (n : ℕ). T (has (newAt .id) (ids ((look (fresh N) ((d, execute newAt st) ∷ r .states) n) .executed)))) (sym (inv .own d td))
+                within = subst (λ (n : ℕ). T (has (newAt .id) (ids ((look (fresh N) ((d, execute newAt st) ∷ r .states) n) .executed)))) (sym (now .own td))
                     (rw (T→eq (eqb d d) (eqb-refl d), look) (has-self (newAt .id) (ids (st .executed))))
 
         pub marking-ok : (box : MarkBox) (lent : List ℕ) → All (λ y. past (y .id) ≡ y .past) ((plainStep h (makingAt d box (length lent))) .made)
             → Inv (runStep N r (marking d box lent)) (plainStep h (makingAt d box (length lent)))
-        unfolding newMark
-        marking-ok box lent hp = go (mark-cases past N some-desk st box lent (inv .ok d .hist) (inv .kept d))
+        unfolding newMade newMark
+        marking-ok box lent hp = go (mark-cases past N some-desk st box lent (now .ok .hist) (now .kept))
           where
             own : {A : Type 0} (f : ℕ → DeskLists → A) → f d (listsAt h d) ≡ f (st .own) (listsOf past st)
-            own f = let n = sym (inv .own d td) in let l = inv .lists d in λ i. f (n i) (l i)
+            own f = let n = sym (now .own td) in let l = now .lists in λ i. f (n i) (l i)
 
             makes : making d (listsAt h d) box (length lent) ≡ making (st .own) (listsOf past st) box (length lent)
             makes = own (λ n l. making n l box (length lent))
 
             go : MarkCase past N st box lent → Inv (runStep N r (marking d box lent)) (plainStep h (makingAt d box (length lent)))
-            go (declined c e₁ e₂) = rw (e₁, makes ∙ e₂) (keep-made st (ofMark (refused c)) (λ i t. t) refl (inv .kept d) (inv .ok d) (listsOf past st) refl)
+            go (declined c e₁ e₂) = rw (e₁, makes ∙ e₂) (keep-made st (ofMark (refused c)) (λ i t. t) (listsOf past st) (record { own = now .own; kept = now .kept; ok = now .ok; lists = refl }))
             go (granted n e₁ e₂ fit en) =
                 let m : Mark = newMark st box in
                 let hp′ = rw (makes ∙ e₂) at hp in
-                let ep : past (m .id) ≡ ids (st .executed) = ap past (sym (new-id box)) ∙ hp′ .0 ∙ new-past box in
+                let ep : past (m .id) ≡ ids (st .executed) = ap past (sym (new-id box)) ∙ hp′ .0 ∙ ap (λ (l : DeskLists). madeIds (l .listed)) (now .lists) ∙ made-ids past (st .executed) in
                 let nd : newMade (st .own) (listsOf past st) box ≡ madeOf past m = new-made past st box ep in
-                let kx = subst (λ (o : Marked). Invariant N some-desk (o .state)) e₁ (mark-kept N some-desk st box lent (inv .kept d)) in
-                let n′ = sym (inv .own d td) in
+                let kx = subst (λ (o : Marked). Invariant N some-desk (o .state)) e₁ (mark-kept N some-desk st box lent (now .kept)) in
+                let n′ = sym (now .own td) in
                 let front = fit-front N m _ in
                 rw (e₁, makes ∙ e₂) (granted-ok box fit ep (ofMark (gives n)) kx _ (rw en (λ i. record { id = record { desk = n′ i; number = m .id .number }; bytes = front i }))
                 _ (own (λ n l. newMade n l box) ∙ nd) _ (λ i. record { listed = nd i ∷ map (madeOf past) (st .executed); waiting = map (madeOf past) (st .waiting) }))

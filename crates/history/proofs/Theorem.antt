@@ -2,7 +2,7 @@
 use Prim.Native.Nat.{_<_, _≤_, suc, ℕ}
 use lib.Dec.{T, eqb, leb, ltb}
 use lib.ListN.{length}
-use mathlib.Core.Bool.{Bool, _&&_, _||_, false, not, true}
+use mathlib.Core.Bool.{Bool, _&&_, false, not, true}
 use mathlib.Core.List.{List, [], _++_, _∷_, map}
 use mathlib.Core.Logic.{inl, inr}
 use mathlib.Core.Option.{Option, none, some}
@@ -101,7 +101,7 @@ module _ (N : ℕ) (some-desk : 1 ≤ N) (s : List Step) (at : AtDesks N s) wher
   inv = inv-of N some-desk s at
 
   pub listed-executed : (d : ℕ) → listedAt s d ≡ ids ((stateAt N (run N s) d) .executed)
-  listed-executed d = ap (λ (l : DeskLists). madeIds (l .listed)) (inv .lists d) ∙ made-ids (pastAt s) ((stateAt N (run N s) d) .executed)
+  listed-executed d = ap (λ (l : DeskLists). madeIds (l .listed)) (inv .desks d .lists) ∙ made-ids (pastAt s) ((stateAt N (run N s) d) .executed)
 
   -- Of two that say the same number, both say it.
   says : (m : Mark) (r n : ℕ) → m .past ≡ Said r → T (sameCount (m .past) (Said n)) → m .past ≡ Said n
@@ -113,13 +113,13 @@ module _ (N : ℕ) (some-desk : 1 ≤ N) (s : List Step) (at : AtDesks N s) wher
       let st = stateAt N (run N s) d in
       let past = pastAt s in
       record {
-        lists = boxed-same past (st .executed) ∙ sym (ap (λ (p : DeskLists). map madeBoxed (p .listed)) (inv .lists d));
-        waiting = boxed-same past (st .waiting) ∙ sym (ap (λ (p : DeskLists). map madeBoxed (p .waiting)) (inv .lists d));
-        stamps = all-append _ (st .executed) (st .waiting) (all-map (λ m k. k .stamp) (st .executed) (inv .ok d .ks)) (all-map (λ m l. l .k .stamp) (st .waiting) (inv .ok d .lacks));
+        lists = boxed-same past (st .executed) ∙ sym (ap (λ (p : DeskLists). map madeBoxed (p .listed)) (inv .desks d .lists));
+        waiting = boxed-same past (st .waiting) ∙ sym (ap (λ (p : DeskLists). map madeBoxed (p .waiting)) (inv .desks d .lists));
+        stamps = all-append _ (st .executed) (st .waiting) (all-map (λ m k. k .stamp) (st .executed) (inv .desks d .ok .ks)) (all-map (λ m l. l .k .stamp) (st .waiting) (inv .desks d .ok .lacks));
         reckoned = all-both {P = λ m. m .past ≡ Said (reckoning (st .executed) (m .id))} (λ m e k. says m (reckoning (st .executed) (m .id)) (length (past (m .id))) e (k .honest))
-            (st .executed) (sound-reckoned (st .executed) (inv .kept d .reach .sound)) (inv .ok d .ks);
-        counts = all-map (λ m l. l .k .honest) (st .waiting) (inv .ok d .lacks);
-        relates = relate-same ((plainOf s) .made) st (listsAt (plainOf s) d) (inv .lists d) (inv .ok d .hist);
+            (st .executed) (sound-reckoned (st .executed) (inv .desks d .kept .reach .sound)) (inv .desks d .ok .ks);
+        counts = all-map (λ m l. l .k .honest) (st .waiting) (inv .desks d .ok .lacks);
+        relates = relate-same ((plainOf s) .made) st (listsAt (plainOf s) d) (inv .desks d .lists) (inv .desks d .ok .hist);
       }
 
   -- What holds of the frame of each mark made, of either edition, holds of each frame.
@@ -149,9 +149,9 @@ module _ (N : ℕ) (some-desk : 1 ≤ N) (s : List Step) (at : AtDesks N s) wher
 
   consequent : Consequent N (run N s) (plainOf s)
   consequent = record {
-    behind = λ d t. behind ((plainOf s) .made) ((stateAt N (run N s) d) .executed) (inv .ok d .hist);
+    behind = λ d t. behind ((plainOf s) .made) ((stateAt N (run N s) d) .executed) (inv .desks d .ok .hist);
     lacking = λ d t. let st = stateAt N (run N s) d in
-        all-both {P = Unlisted _ _ (st .executed)} {Q = λ m. T (not (ready (st .executed) m))} (λ m l q. rw (ready-past _ (st .executed) (inv .ok d .hist) m (l .k .good)) at q) (st .waiting) (inv .ok d .lacks) (inv .kept d .still .quiet);
+        all-both {P = Unlisted _ _ (st .executed)} {Q = λ m. T (not (ready (st .executed) m))} (λ m l q. rw (ready-past _ (st .executed) (inv .desks d .ok .hist) m (l .k .good)) at q) (st .waiting) (inv .desks d .ok .lacks) (inv .desks d .kept .still .quiet);
     direct = each-frame _ (λ m f x a b ta tb u. x .good .last a b (rw (fit-entries N m f) at ta) (x .good .entry b (rw (fit-entries N m f) at tb)) u);
     answers = rw (inv .answers) (plain-occurs (fed s));
     conversions = inv .conversions;
