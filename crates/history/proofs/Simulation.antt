@@ -59,14 +59,14 @@ module _ (N : ℕ) (some-desk : 1 ≤ N) (past : MarkId → List MarkId) where
     pub k : Recorded past made mark
 
   -- Desk d in state x has the lists ls of the history.
-  pub record Follows (made : List MadeMark) (d : ℕ) (ls : DeskLists) (x : State) : Type 0 where
+  pub record HasLists (made : List MadeMark) (d : ℕ) (ls : DeskLists) (x : State) : Type 0 where
     pub own : isDesk N d ≡ true → x .own ≡ d
     pub kept : Invariant N some-desk x
     pub ok : Consistent past made (x .executed) (x .waiting)
     pub lists : ls ≡ listsOf past x
 
   pub record Inv (r : Run) (h : History) : Type 0 where
-    pub desks : (d : ℕ) → Follows (h .made) d (listsAt h d) (stateAt N r d)
+    pub desks : (d : ℕ) → HasLists (h .made) d (listsAt h d) (stateAt N r d)
     pub frames : All (Spelt (h .made)) (r .frames)
     pub whole : All (HasFrame (r .frames)) (h .made)
     pub reached : All (λ x. Within N r (x .id)) (h .made)
@@ -84,7 +84,7 @@ module _ (N : ℕ) (some-desk : 1 ≤ N) (past : MarkId → List MarkId) where
 
   pub start : Inv (run N []) (plain [])
   start = record {
-    desks = λ d. fresh-is (λ x. Invariant N some-desk x → Follows [] d (record { listed = []; waiting = [] }) x) d
+    desks = λ d. fresh-is (λ x. Invariant N some-desk x → HasLists [] d (record { listed = []; waiting = [] }) x) d
         (λ e o k. record { own = o; kept = k; ok = record { hist = tt; ks = tt; lacks = tt }; lists = refl }) (kept N some-desk (begun d));
     frames = tt;
     whole = tt;
@@ -145,7 +145,7 @@ module _ (N : ℕ) (some-desk : 1 ≤ N) (past : MarkId → List MarkId) where
       abbrev st : State
       st = stateAt N r d
 
-      now : Follows (h .made) d (listsAt h d) st
+      now : HasLists (h .made) d (listsAt h d) st
       now = inv .desks d
 
       -- DESK d BECOMES x
@@ -157,10 +157,10 @@ module _ (N : ℕ) (some-desk : 1 ≤ N) (past : MarkId → List MarkId) where
         grow : (i : MarkId) → Within N r i → Within N after i
         grow i k = look-new (λ e y. T (has i (ids ((stateAt N r e) .executed))) → T (has i (ids (y .executed)))) (fresh N) (r .states) d x (g i) (i .desk) (λ t. t) k
 
-        put : (ys : List MadeMark) → ((m : Mark) → Recorded past (h .made) m → Recorded past ys m) → (l : DeskLists) → Follows ys d l x
+        put : (ys : List MadeMark) → ((m : Mark) → Recorded past (h .made) m → Recorded past ys m) → (l : DeskLists) → HasLists ys d l x
             → All (Spelt ys) fs → All (HasFrame fs) ys → All (λ y. Within N after (y .id)) ys → Inv after (record { lists = (d, l) ∷ h .lists; made = ys; answers = a ∷ h .answers })
         put ys mono l k sp wh re = record {
-          desks = λ e. let u = inv .desks e in look-both (Follows ys) (λ n. record { listed = []; waiting = [] }) (fresh N) (h .lists) (r .states) d l x k e (record {
+          desks = λ e. let u = inv .desks e in look-both (HasLists ys) (λ n. record { listed = []; waiting = [] }) (fresh N) (h .lists) (r .states) d l x k e (record {
             own = u .own;
             kept = u .kept;
             ok = record {
@@ -178,7 +178,7 @@ module _ (N : ℕ) (some-desk : 1 ≤ N) (past : MarkId → List MarkId) where
         }
 
       -- No mark is made.
-      keep-made : (x : State) (a : StepAnswer) → Grows (st .executed) (x .executed) → (l : DeskLists) → Follows (h .made) d l x
+      keep-made : (x : State) (a : StepAnswer) → Grows (st .executed) (x .executed) → (l : DeskLists) → HasLists (h .made) d l x
           → Inv (record { states = (d, x) ∷ r .states; frames = r .frames; answers = a ∷ r .answers; conversions = r .conversions }) (record { lists = (d, l) ∷ h .lists; made = h .made; answers = a ∷ h .answers })
       keep-made x a g l k = put x (r .frames) a g (h .made) (λ m u. u) l k (inv .frames) (inv .whole) (all-map (λ y u. grow x (r .frames) a g (y .id) u) (h .made) (inv .reached))
 
