@@ -17,16 +17,16 @@ use Rattle.causality.proofs.Lists.{find-has, has-append, map-append, isSome}
 use Rattle.causality.proofs.Cases.{JudgeCase, received-case, to-execute, to-know, to-refuse, to-wait}
 use Rattle.causality.proofs.Releases.{release-keeps}
 use Rattle.waiting.specs.inner.Steps.{Distinct}
-use Rattle.waiting.proofs.ListLaws.{or-fst, or-snd}
+use Rattle.frame.proofs.Tests.{or-false}
 
 -- Fewer marks have a name that more do not have.
 has-without : (b a : MarkId) (xs : List Mark) → has b (ids xs) ≡ false → has b (ids (without markId a xs)) ≡ false
 has-without b a [] e = refl
-has-without b a (x ∷ xs) e = go (same a (x .id)) (has-without b a xs (or-snd (same b (x .id)) (has b (ids xs)) e))
+has-without b a (x ∷ xs) e = go (same a (x .id)) (has-without b a xs (or-false (same b (x .id)) (has b (ids xs)) e .1))
   where
     go : (c : Bool) → has b (ids (without markId a xs)) ≡ false → has b (ids (elim c as (λ y. List Mark) [ true ↦ without markId a xs | false ↦ x ∷ without markId a xs ])) ≡ false
     go true h = h
-    go false h = let q = or-fst (same b (x .id)) (has b (ids xs)) e in λ i. q i || h i
+    go false h = let q = or-false (same b (x .id)) (has b (ids xs)) e .0 in λ i. q i || h i
 
 pub distinct-without : (a : MarkId) (xs : List Mark) → Distinct xs → Distinct (without markId a xs)
 distinct-without a [] d = d
@@ -41,7 +41,7 @@ distinct-release = release-keeps rules (λ l ws k f. Distinct ws) (λ l ws k f w
 
 -- A name that is not found is none of the later ones.
 absent : (a : MarkId) (xs ys : List Mark) → find markId a (xs ++ ys) ≡ none → has a (ids ys) ≡ false
-absent a xs ys e = or-snd (has a (ids xs)) (has a (ids ys)) (sym (has-append a (ids xs) (ids ys)) ∙ ap (has a) (sym (map-append markId xs ys)) ∙ find-has markId a (xs ++ ys) ∙ ap isSome e)
+absent a xs ys e = or-false (has a (ids xs)) (has a (ids ys)) (sym (has-append a (ids xs) (ids ys)) ∙ ap (has a) (sym (map-append markId xs ys)) ∙ find-has markId a (xs ++ ys) ∙ ap isSome e) .1
 
 module _ (N : ℕ) where
   distinct-receive : (st : State) (s : List ℕ) → Distinct (st .waiting) → Distinct ((receive N st s) .state .waiting)

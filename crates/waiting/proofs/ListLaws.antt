@@ -1,7 +1,7 @@
 -- Lists of marks by slot, newest first: one slot taken out. Nothing here knows how a slot is laid out. Assumes nothing.
 use Prim.Native.Nat.{_-_, _<_, _≤_, suc, zero, ℕ}
 use lib.Dec.{T, not-T}
-use mathlib.Core.Bool.{Bool, _||_, false, true}
+use mathlib.Core.Bool.{false}
 use mathlib.Core.List.{List, [], _∷_}
 use mathlib.Core.Logic.{⊎-elim}
 use mathlib.Core.Path.{_∙_, _≡_, ap, refl, subst, sym}
@@ -10,35 +10,22 @@ use native.Mathlib.Omega.{arith}
 use Rattle.frame.specs.Names.{MarkId}
 use Rattle.causality.specs.Marks.{has, same, without}
 use Rattle.causality.specs.State.{Mark, ids, markId}
-use Rattle.causality.proofs.Logic.{T→eq, bool-ext, same-refl, same→eq, nT→eq}
+use Rattle.causality.proofs.Logic.{T→eq, same-refl, same→eq, nT→eq}
 use Rattle.rows.specs.View.{Carried, markAt, view, downFrom}
 use Rattle.waiting.specs.inner.Steps.{Distinct, takenOut}
 use Rattle.rows.proofs.Down.{down-cong, down-has}
-
-pub or-fst : (a b : Bool) → (a || b) ≡ false → a ≡ false
-or-fst true b e = e
-or-fst false b e = refl
-
-pub or-snd : (a b : Bool) → (a || b) ≡ false → b ≡ false
-or-snd true b e = ap (λ (x : Bool). elim x [ true ↦ b | false ↦ false ]) e
-or-snd false b e = e
-
-same-swap : (a b : MarkId) → same a b ≡ same b a
-same-swap a b = bool-ext (same a b) (same b a) (go a b) (go b a)
-  where
-    go : (x y : MarkId) → T (same x y) → T (same y x)
-    go x y t = subst (λ (z : MarkId). T (same z x)) (same→eq x y t) (same-refl x)
+use Rattle.frame.proofs.Tests.{or-false}
 
 -- Where no mark has the name, nothing is left out.
 without-absent : (a : MarkId) (xs : List Mark) → has a (ids xs) ≡ false → without markId a xs ≡ xs
 without-absent a [] e = refl
 without-absent a (x ∷ xs) e =
-    let h = or-fst (same a (x .id)) (has a (ids xs)) e in
-    rw (h, without) (ap (λ (ys : List Mark). x ∷ ys) (without-absent a xs (or-snd (same a (x .id)) (has a (ids xs)) e)))
+    let h = or-false (same a (x .id)) (has a (ids xs)) e in
+    rw (h .0, without) (ap (λ (ys : List Mark). x ∷ ys) (without-absent a xs (h .1)))
 
 module _ (m : ℕ → Mark) where
-  has-at : (a : MarkId) (k i : ℕ) → has a (ids (downFrom m k)) ≡ false → i < k → same a ((m i) .id) ≡ false
-  has-at a k i e h = nT→eq (same a ((m i) .id)) (not-T (same a ((m i) .id)) (λ t. subst T e (rw (same→eq a ((m i) .id) t) (down-has m k i h))))
+  has-at : (a : MarkId) (k i : ℕ) → has a (ids (downFrom m k)) ≡ false → i < k → same ((m i) .id) a ≡ false
+  has-at a k i e h = nT→eq (same ((m i) .id) a) (not-T (same ((m i) .id) a) (λ t. subst T e (subst (λ (x : MarkId). T (has x (ids (downFrom m k)))) (same→eq ((m i) .id) a t) (down-has m k i h))))
 
   -- The mark of slot i goes by its name, where no other has that.
   newest : (i k : ℕ) → i ≡ k → Distinct (downFrom m (suc k)) → takenOut (k - i) (downFrom m (suc k)) ≡ without markId ((m i) .id) (downFrom m (suc k))
@@ -52,7 +39,7 @@ module _ (m : ℕ → Mark) where
   without-taken i (suc k) l d = ⊎-elim (λ x. newest i (suc k) x d)
       (λ x.
       let z : suc k - i ≡ suc (k - i) = omega arith in
-      let s = same-swap ((m i) .id) ((m (suc k)) .id) ∙ has-at ((m (suc k)) .id) (suc k) i (d .0) x in
+      let s = has-at ((m (suc k)) .id) (suc k) i (d .0) x in
       let q : i ≤ k = omega arith in
       rw (z, s, without) (ap (λ (ys : List Mark). m (suc k) ∷ ys) (without-taken i k q (d .1)))) (eq-or-lt-of-le {n = i} {m = suc k} l)
 
