@@ -36,14 +36,11 @@ module _ (r s t : List ℕ) where
 
 -- The sum, desk by desk. A part of it is no more than the whole.
 module _ (r s : List ℕ) (j : ℕ) where
-  abbrev greater : ℕ → ℕ
-  greater d = max (rowFn r d) (rowFn s d)
-
   pub total-more : (n v : ℕ) → n ≡ greaterSum j r s → v ≡ max (getD r j 0) (getD s j 0) → n + v ≡ greaterSum (j + 1) r s
-  total-more n v e q = rw (sum-more greater j, sub-one (suc j)) (omega arith)
+  total-more n v e q = rw (sum-more, sub-one (suc j)) (omega arith)
 
   pub total-part : (n : ℕ) → j < n → max (getD r j 0) (getD s j 0) + greaterSum j r s ≤ greaterSum n r s
-  total-part n h = rw (sub-one (suc j)) at (sum-part greater n j h)
+  total-part n h = rw (sub-one (suc j)) at (sum-part (λ d. max (rowFn r d) (rowFn s d)) n j h)
 
 -- THE TALLY, one place down
 
