@@ -18,7 +18,7 @@ use Rattle.halving.specs.Halving.{halving, middle, mostAsks}
 use Rattle.queries.specs.inner.Steps.{AskedOf}
 use Rattle.halving.specs.inner.Steps.{SearchedOf, numberPrecedes}
 use Rattle.queries.proofs.Asking.{asked-reaches, asked-told}
-use Rattle.queries.proofs.MadeBefore.{tally-few}
+use Rattle.causality.proofs.Lists.{tally-few}
 use Rattle.queries.proofs.PastRow.{reached-counts}
 use Rattle.queries.proofs.Reaching.{reached}
 use Rattle.rows.proofs.Down.{down-length}

@@ -22,7 +22,7 @@ use Rattle.rows.proofs.Arrays.{sound-below}
 use Rattle.rows.proofs.Places.{ids-names}
 use Rattle.rows.proofs.RowSteps.{one-turn, pass-ended, pass-rest, pass-step}
 use Rattle.queries.specs.inner.Steps.{AskedOf, endsAt}
-use Rattle.queries.proofs.MadeBefore.{tally-few}
+use Rattle.causality.proofs.Lists.{tally-few}
 use Rattle.queries.proofs.Reaching.{reach-end, reach-now, reached}
 use Rattle.rows.proofs.Down.{down-length}
 

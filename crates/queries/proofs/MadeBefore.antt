@@ -3,7 +3,7 @@ use Prim.Native.Nat.{_-_, _<_, _≤_, suc, zero, ℕ}
 use lib.Dec.{T, eqb, eqb→eq, eqb-refl, ltb, ltb→lt, nltb→le, not-T}
 use lib.ListN.{getD, length}
 use mathlib.Core.Bool.{not}
-use mathlib.Core.List.{List, [], _∷_}
+use mathlib.Core.List.{List, _∷_}
 use mathlib.Core.Logic.{inl, inr}
 use mathlib.Core.Path.{_∙_, _≡_, ap, refl, subst, sym}
 use native.Mathlib.Omega.{arith}
@@ -25,10 +25,6 @@ module _ (d : ℕ) (i : MarkId) (is : List MarkId) where
 
   other : T (not (eqb d (i .desk))) → (lastIn d (i ∷ is) ≡ lastIn d is) × (tally d (i ∷ is) ≡ tally d is)
   other t = (rw (nT→eq (eqb d (i .desk)) t, lastIn) refl, rw (nT→eq (eqb d (i .desk)) t, tally) refl)
-
-pub tally-few : (d : ℕ) (is : List MarkId) → tally d is ≤ length is
-tally-few d [] = omega arith
-tally-few d (i ∷ is) = elim (split (eqb d (i .desk))) [ inl t ↦ omega (arith, own d i is t .1, tally-few d is) | inr t ↦ omega (arith, other d i is t .1, tally-few d is) ]
 
 module _ (ds ns : List ℕ) where
   -- Of counted names the first are counted.
