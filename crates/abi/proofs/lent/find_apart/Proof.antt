@@ -4,6 +4,7 @@ use borrow.Author.Needs.{needs}
 use Rattle.causality.specs.Meaning.{idOf}
 use Rattle.frame.specs.declared.MarkId.{MarkId}
 use Rattle.concurrent.specs.Found.{ApartFound}
+use Rattle.queries.specs.inner.Lent.{queriedState}
 use Rattle.abi.proofs.lent.find_apart.Statement.{statement}
 use Rattle.abi.proofs.lent.find_apart.Tie as tie
 
