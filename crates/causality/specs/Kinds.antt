@@ -36,7 +36,7 @@ pub record Kind (A : Type 0) : Type 0 where
   pub rules : Rules A
   pub newMark : StateOf A → MarkBox → A
   pub frame : A → List ℕ
-  pub write : A → ℕ → Answer ℕ  -- with so many lent bytes: the frame's size, or the refusal
+  pub write : A → ℕ → Answer ℕ  -- into lent bytes of this count: the frame's size, or the refusal
   pub read : List ℕ → Answer A  -- conditions 2 to 6
 
 -- "its number and the frame's size are returned".

@@ -48,7 +48,7 @@ module _ (own : ℕ) (a : Arrays) (q : Waiting) (k : KeptIn own a q) where
   unfolding full
   full-counts = λ i. eqb (executed-length own a q i + waiting-length own a q i) places
 
-  -- With so many waiting marks.
+  -- With n waiting marks.
   pub is-full : (n : ℕ) → q .count ≡ n → a .count + n ≡ places → full (stateIn own a q) ≡ true
   is-full n e f = full-counts ∙ eq-eqb (a .count + q .count) places (ap (λ (x : ℕ). a .count + x) e ∙ f)
 

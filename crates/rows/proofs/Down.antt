@@ -1,4 +1,4 @@
--- Lists of what stands at the first so many places, newest first. Assumes nothing.
+-- Lists of what stands below a place, newest first. Assumes nothing.
 use Prim.Native.Nat.{_-_, _<_, _≤_, suc, zero, ℕ}
 use lib.Dec.{T}
 use lib.ListN.{length, take}

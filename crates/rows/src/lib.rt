@@ -7,7 +7,7 @@ use frame::DESKS;
 use frame::MarkBox;
 use frame::Number;
 
-// A row has a count for each desk; a desk has so many places, for executed and waiting marks together.
+// A row has a count for each desk; a desk has PLACES places, for executed and waiting marks together.
 pub const WIDTH: usize = DESKS as usize;
 
 pub const PLACES: usize = 512;

@@ -55,7 +55,7 @@ max-test x a b k f = bool-ext (ltb (max x a) k) (ltb (max x b) k) (go a b f) (go
 pub asked-set : (n : ℕ) (row : List ℕ) (d v : ℕ) → getD row d 0 ≡ 0 → (j : ℕ) → j < n → 0 < getD row j 0 → getD (set row d v) j 0 ≡ getD row j 0
 asked-set n row d v h j q p = getD-set-other row d j v 0 (λ z. let w : getD row j 0 ≡ 0 = ap (λ (i : ℕ). getD row i 0) z ∙ h in omega arith)
 
--- A mark that is not among the first so many is not among fewer.
+-- A mark that is not below `count` is not below less.
 pub older-none : (n : ℕ) (ds ns : List ℕ) (bs : ℕ → Carried) (ss : List ℕ) (p q : ℕ) → p ≤ q → (i : MarkId) → has i (ids (view n q ds ns bs ss)) ≡ false → has i (ids (view n p ds ns bs ss)) ≡ false
 older-none n ds ns bs ss p q h i e = nT→eq x (not-T x (λ t. subst T e (has-more n ds ns bs ss p q h i t)))
   where
