@@ -15,7 +15,7 @@ use Rattle.frame.specs.Answer.{Answer, gives, refused}
 use Rattle.frame.specs.Frame.{past_bad, read_fields}
 use Rattle.frame.specs.Names.{MarkId, box_rule, is_desk, numbers, pasts}
 use Rattle.causality.specs.Answers.{Judgement, Numbered}
-use Rattle.causality.specs.Calls.{Created, FromCalls, act, and_then, begun, earlier, empty, execute, full, judge, mark, mark_answer, mark_in, marked, new_mark, read_mark, receive, receive_mark, received, release, rules, state_if}
+use Rattle.causality.specs.Calls.{Created, FromCalls, act, and_then, begun, empty, execute, full, judge, mark, mark_answer, mark_in, marked, new_mark, read_mark, receive, receive_mark, received, release, rules, state_if}
 use Rattle.causality.specs.Kinds.{executing_by, mark_of, new_of, receive_of}
 use Rattle.causality.specs.Marks.{All, has, places, tally}
 use Rattle.causality.specs.State.{Mark, State, heads, ids, mark_id, ready, reckoned, reckoning, with_past}

@@ -11,7 +11,7 @@ use Rattle.frame.specs.declared.MarkBox.{MarkBox}
 use Rattle.frame.specs.declared.Past.TheVariants.{Unsaid}
 use Rattle.frame.specs.Answer.{Answer, gives, refuse_if, refused}
 use Rattle.frame.specs.Names.{MarkId, is_desk}
-use Rattle.causality.specs.Calls.{Created, Marked, begun, empty, execute, frame_of_mark, is_said, mark, new_mark, read_mark, receive, receive_mark, to_first_bytes, to_first_size, to_second_bytes, to_second_mark, to_second_size, unmade}
+use Rattle.causality.specs.Calls.{Created, Marked, begun, empty, execute, frame_of_mark, is_said, new_mark, read_mark, receive, receive_mark, to_first_bytes, to_first_size, to_second_bytes, to_second_mark, to_second_size, unmade}
 use Rattle.causality.specs.Kinds.{new_of, receive_of}
 use Rattle.causality.specs.Marks.{All, any, find, has, rising, same, tally}
 use Rattle.causality.specs.State.{Mark, State, heads, ids, is_head, mark_id, with_past}
