@@ -10,7 +10,7 @@ use mathlib.Core.Path.{◌∙◌, ◌≡◌, ap, refl, sym}
 use native.Mathlib.Omega.{arith}
 use Rattle.frame.specs.Names.{MarkId}
 use Rattle.causality.specs.Marks.{places, tally}
-use Rattle.causality.specs.State.{Mark, heads, ids}
+use Rattle.causality.specs.State.{Mark, ids}
 use Rattle.causality.proofs.Logic.{T→eq, nT→eq, split}
 use Rattle.causality.specs.inner.Order.{Strict, CausallyOrdered}
 use Rattle.causality.specs.inner.Passes.{row_of}
