@@ -1,0 +1,12 @@
+use mathlib.Core.Path.{refl}
+use Rattle.desk.specs.StateOf.{state_of}
+use Rattle.desk.proofs.Invariant.{kept-lent, kept_sound}
+use Rattle.desk.proofs.Desk.first_apart.Goals as goal
+
+pub first_apart-answer-requires : goal.first_apart-answer-requires
+first_apart-answer-requires c = record { count = _; marks = kept-lent c.args.self c.requires }
+
+pub returns : goal.returns
+returns c =
+    let d = c.args.self in
+    record { desk = refl; answer = c.first_apart-answer.ensures _ d.own _ (state_of d).waiting (kept-lent d c.requires) (kept_sound d c.requires) }
