@@ -1,3 +1,4 @@
+-- `apart_list` meets its contract: its three ways out are those of `ApartWays`, from what find, apart and refused ensure.
 use Rattle.executed.proofs.Chain.{found_inside}
 use Rattle.concurrent.proofs.ApartWays.{apart-all-listed, apart-not-executed, apart_too_short}
 use Rattle.concurrent.proofs.apart_list.Goals as goal

@@ -1,3 +1,4 @@
+-- `first_followers` meets its contract: what the check leaves of it.
 use mathlib.Core.Path.{◌∙◌, sym}
 use Rattle.rows.specs.View.{width}
 use Rattle.concurrent.proofs.Noting.{noting_behind, noting_done, noting_ends, noting_new, noting_none, noting_starts}

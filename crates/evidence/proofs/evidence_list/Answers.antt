@@ -1,3 +1,4 @@
+-- `evidence_list` meets its contract: its five ways out are those of `Ways`.
 use mathlib.Core.List.{List}
 use mathlib.Core.Path.{◌∙◌, ◌≡◌, subst, sym}
 use Prim.Native.Nat.{ℕ, max, min, ◌<◌, ◌≤◌}

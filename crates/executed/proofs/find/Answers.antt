@@ -1,3 +1,4 @@
+-- `find` meets its contract: what the check leaves of it.
 use mathlib.Core.Logic.{inl, inr}
 use mathlib.Core.Path.{◌≡◌, ◌∙◌, sym}
 use Prim.Native.Nat.{suc, ◌-◌, ◌≤◌, ◌<◌}

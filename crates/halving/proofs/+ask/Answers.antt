@@ -1,3 +1,4 @@
+-- `ask` meets its contract: what the row counts is reached; else the mark at the last place is examined, unless that mark is met or passed. The place falls at each call.
 use Prim.Native.Nat.{◌-◌, ◌<◌, ◌≤◌}
 use lib.ListN.{get_or}
 use native.Mathlib.Omega.{arith}

@@ -1,3 +1,4 @@
+-- `first_apart` meets its contract: of the desk's marks before the place, those that precede are the first, so the next one is the lowest apart.
 use mathlib.Core.Bool.{true}
 use mathlib.Core.List.{List}
 use mathlib.Core.Path.{◌∙◌, ◌≡◌, ap, sym}

@@ -1,3 +1,4 @@
+-- `made_before` meets its contract: what the check leaves of it.
 use Rattle.queries.proofs.MadeBefore.{made_met}
 use Rattle.halving.proofs.made_before.Goals as goal
 

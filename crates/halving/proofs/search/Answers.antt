@@ -1,3 +1,4 @@
+-- `search` meets its contract: what the check leaves of it.
 use borrow.Author.Rules.{rules}
 use native.Mathlib.Omega.{arith}
 use Rattle.halving.proofs.Searching.{few_asks, halved_end, halved_high, halved_low, halved_start}

@@ -1,3 +1,4 @@
+-- `settle` meets its contract: it stops where the rows are final; else the mark at the last place is examined, the tally falls, and so does the place.
 use mathlib.Core.Logic.{inl, inr}
 use mathlib.Core.Path.{◌∙◌, ◌≡◌, subst, sym}
 use lib.ListN.{get_or, take}

@@ -1,3 +1,4 @@
+-- `add` meets its contract: what the check leaves of it.
 use mathlib.Core.Path.{◌≡◌, ap}
 use Prim.Native.Nat.{◌+◌, ◌<◌, ◌≤◌, suc, ℕ}
 use lib.ListN.{get_or}

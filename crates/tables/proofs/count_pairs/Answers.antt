@@ -1,3 +1,4 @@
+-- `count_pairs` meets its contract: what the check leaves of it.
 use Prim.Native.Nat.{◌+◌, ◌-◌, ◌<◌, ◌≤◌, suc, ℕ}
 use lib.ListN.{get_or}
 use mathlib.Core.List.{List}

@@ -1,3 +1,4 @@
+-- `pair_tables` meets its contract: 13 by the room; else the two tables, put into the run one behind the other.
 use mathlib.Core.Path.{◌∙◌, ap, sym}
 use Prim.Native.Nat.{ℕ}
 use lib.ListN.{length}

@@ -1,3 +1,4 @@
+-- `judge` meets its contract: 7 by the tally; a mark of the name that is executed or waiting is compared; another one is left to `admit` (Judging).
 use mathlib.Core.Bool.{false}
 use mathlib.Core.Option.{none}
 use mathlib.Core.Path.{◌≡◌, ◌∙◌, ap, sym}

@@ -1,3 +1,4 @@
+-- `reckon` meets its contract: the row of the trace tells whether the stamp is false, and its sum is the reckoning (JudgeLaws).
 use Prim.Native.Nat.{ℕ, ◌≤◌, ◌+◌}
 use mathlib.Core.Bool.{false}
 use mathlib.Core.List.{List, ◌∷◌}

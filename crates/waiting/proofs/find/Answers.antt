@@ -1,3 +1,4 @@
+-- `find` meets its contract: what the check leaves of it.
 use borrow.Author.Rules.{rules}
 use Rattle.rows.specs.View.{width}
 use Rattle.rows.proofs.Copies.{below_no_desk, below_no_number}

@@ -1,3 +1,4 @@
+-- `lowest_ready` meets its contract: what the check leaves of it.
 use borrow.Author.Rules.{rules}
 use Rattle.rows.specs.View.{width}
 use Rattle.waiting.proofs.LowestLaws.{lowering_all, lowering_kept, lowering_passed, lowering_taken}

@@ -1,3 +1,4 @@
+-- `push` meets its contract: the mark is stored in the first unused slot.
 use mathlib.Core.Path.{refl}
 use borrow.Author.Rules.{rules}
 use Rattle.causality.specs.Marks.{waiting_places}

@@ -1,3 +1,4 @@
+-- `kaungimewe_first_apart_lent` meets its contract: the query over lent arrays answers for every desk that lends them.
 use mathlib.Core.Path.{◌∙◌, refl}
 use Rattle.frame.specs.Names.{desks}
 use Rattle.causality.specs.Calls.{first_apart}

@@ -1,3 +1,4 @@
+-- `kaungimewe_pair_tables_lent` meets its contract: the tables over lent arrays are those of every desk that lends them.
 use mathlib.Core.Path.{refl}
 use Rattle.causality.specs.Tables.{pair_tables_counts}
 use Rattle.rows.specs.View.{carried_at}

@@ -1,3 +1,4 @@
+-- `kaungimewe_relate_lent` meets its contract: the query over lent arrays answers for every desk that lends them.
 use mathlib.Core.Path.{◌∙◌, refl}
 use Rattle.causality.specs.Calls.{relate}
 use Rattle.causality.specs.Meaning.{id_of}

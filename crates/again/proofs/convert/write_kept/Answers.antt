@@ -1,3 +1,4 @@
+-- `write_kept` meets its contract: each way out is the definition's by `Converting`, from what find, mark_at, same_fields and write_mark ensure.
 use mathlib.Core.List.{List}
 use mathlib.Core.Option.{some}
 use mathlib.Core.Path.{◌≡◌, ◌∙◌, ap, sym}

@@ -1,3 +1,4 @@
+-- `arrive` meets its contract: what the verdict says comes of it (Arriving).
 use Rattle.executed.specs.Arrays.{Arrays, here}
 use Rattle.waiting.specs.Queue.{here as held_here}
 use Rattle.waiting.specs.declared.Waiting.{Waiting}

@@ -1,3 +1,4 @@
+-- `release` meets its contract: what the check leaves of it.
 use mathlib.Core.Path.{◌≡◌, refl}
 use native.Mathlib.Omega.{arith}
 use Rattle.arrivals.specs.inner.Steps.{executed_by, dropped_by}

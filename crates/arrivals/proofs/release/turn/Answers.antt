@@ -1,3 +1,4 @@
+-- `turn` meets its contract: the mark of the slot is taken out, and dropped or executed by its stamp (Turning).
 use mathlib.Core.Path.{◌≡◌}
 use Rattle.rows.specs.View.{carried_at, past_from}
 use Rattle.rows.specs.inner.Slots.{held_mark}

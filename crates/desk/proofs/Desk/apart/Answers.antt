@@ -1,3 +1,4 @@
+-- `apart` meets its contract: what `fill` leaves in the run is the list of marks apart.
 use Rattle.desk.proofs.LentPairs.{lent_pairs}
 use Rattle.desk.proofs.Desk.apart.Goals as goal
 

@@ -1,3 +1,4 @@
+-- `apart_list` meets its contract: the query over the desk's arrays answers for the desk's state.
 use mathlib.Core.Path.{refl}
 use Rattle.desk.specs.StateOf.{state_of}
 use Rattle.desk.proofs.Invariant.{kept-lent, kept_sound}

@@ -1,3 +1,4 @@
+-- `find_evidence` meets its contract: the query over the desk's arrays answers for the desk's state.
 use Rattle.desk.specs.StateOf.{state_of}
 use Rattle.desk.proofs.Invariant.{kept-lent, kept_sound}
 use Rattle.desk.proofs.Desk.find_evidence.Goals as goal

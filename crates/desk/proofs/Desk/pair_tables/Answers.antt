@@ -1,3 +1,4 @@
+-- `pair_tables` meets its contract: the tables over the desk's arrays are those of the desk's state.
 use mathlib.Core.Path.{refl}
 use Rattle.causality.specs.Tables.{pair_tables_counts}
 use Rattle.rows.specs.View.{carried_at}

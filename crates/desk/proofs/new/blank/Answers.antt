@@ -1,3 +1,4 @@
+-- `blank` meets its contract: no place is in use, and each slot of each array is zero.
 use Prim.Native.Nat.{ℕ}
 use lib.ListN.{length-replicate}
 use mathlib.Core.List.{[]}

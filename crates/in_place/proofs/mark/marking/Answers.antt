@@ -1,3 +1,4 @@
+-- `marking` meets its contract: each way out is the definition's by `Marking`, from the tests before it and from what next_mark, write_mark and execute ensure.
 use mathlib.Core.Path.{◌∙◌, ap, sym}
 use native.Mathlib.Omega.{arith}
 use Rattle.frame.specs.Frame.{writing}

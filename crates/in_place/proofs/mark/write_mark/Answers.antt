@@ -1,3 +1,4 @@
+-- `write_mark` meets its contract: the part of the bytes that is lent to the writer spells the entries of the row.
 use lib.ListN.{length}
 use mathlib.Core.Path.{◌∙◌}
 use Rattle.in_place.proofs.MarkLaws.{first_part, held_bytes, held_size}

@@ -1,3 +1,4 @@
+-- `receiving` meets its contract: a refusal of the reader is passed on, else the mark in the frame arrives (Receipt).
 use mathlib.Core.Path.{◌≡◌, ◌∙◌, ap, refl, subst, sym}
 use Rattle.frame.specs.Answer.{gives}
 use Rattle.frame.specs.Frame.{read_fields, reading}

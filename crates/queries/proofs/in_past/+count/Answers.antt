@@ -1,3 +1,4 @@
+-- `count` meets its contract: the row counts as many as are asked for, no mark is left, or the desk's next is met; else the mark at the last place is examined. The place falls at each call.
 use mathlib.Core.Path.{◌∙◌, ◌≡◌, ap}
 use Prim.Native.Nat.{ℕ, ◌-◌, ◌<◌, ◌≤◌, min}
 use lib.ListN.{get_or}

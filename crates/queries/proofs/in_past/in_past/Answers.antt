@@ -1,3 +1,4 @@
+-- `in_past` meets its contract: what the row of the mark's stamp reaches at a desk is how many of that desk's marks precede it.
 use mathlib.Core.Path.{◌∙◌, ap}
 use Prim.Native.Nat.{min}
 use native.Mathlib.Omega.{arith}

@@ -1,3 +1,4 @@
+-- `past` meets its contract: what the row of a stamp reaches counts the marks that precede the mark.
 use lib.ListN.{replicate}
 use native.Mathlib.Omega.{arith}
 use Rattle.rows.specs.View.{view, width}

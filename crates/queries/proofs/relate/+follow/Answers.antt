@@ -1,3 +1,4 @@
+-- `follow` meets its contract: what the row counts is reached; else the mark at the last place is examined, if it is behind the end. The place falls at each call.
 use mathlib.Core.Path.{sym}
 use Rattle.causality.specs.Meaning.{id_of}
 use Rattle.rows.specs.View.{width}

@@ -1,3 +1,4 @@
+-- `relate` meets its contract: each case of the code is a case of `relate` by the places of the two marks.
 use mathlib.Core.Path.{sym}
 use Prim.Native.Nat.{◌<◌}
 use native.Mathlib.Omega.{arith}

@@ -1,3 +1,4 @@
+-- `same_counts` meets its contract: what the check leaves of it.
 use mathlib.Core.Path.{sym}
 use Prim.Native.Nat.{suc}
 use Rattle.rows.specs.View.{width}
