@@ -1,10 +1,12 @@
 // The bounds: marks that wait, and a full desk.
+ghost use Rattle.std.specs.Prelude.{IfOk};
 ghost use Rattle.desk.specs.StateOf.{Kept};
 
 use crate::{calls, frames};
 use desk::Desk;
 use frame::NUMBERS;
 use rows::PLACES;
+use std::io;
 use waiting::WAITING;
 
 // Two desks: that which makes the marks, and that to which they are handed over.
@@ -48,31 +50,31 @@ pub fn steps(maker: Desk, taker: Desk, times: usize) -> Pair
 }
 
 // Desk 1 makes 1.1, which is kept back, and 1.2 to 1.66; those are handed over to desk 2, then 1.1.
-pub fn waiting() {
+pub fn waiting(rt: &impl Print) -> io::Result<()> {
     let mut space = [0u8; 3 * frames::ROOM];
     let frames: &mut [u8] = &mut space;
-    let a = calls::new(1);
-    let b = calls::new(2);
-    let c = calls::mark_in(a, 1, 1, frames, 0);
-    let p = steps(c, b, WAITING - 1);
-    let maker = p.maker;
-    let taker = p.taker;
-    let d = calls::mark_in(maker, 1, 65, frames, 1);
-    let e = calls::receive_from(b"the 64th waiting mark", taker, frames, 1);
-    calls::mark_in(d, 1, 66, frames, 2);
-    let g = calls::receive_from(b"the 65th waiting mark", e, frames, 2);
-    let h = calls::receive_from(b"a known waiting mark", g, frames, 1);
-    let i = calls::receive_from(b"1.1 releases them", h, frames, 0);
-    calls::receive_from(b"1.66 after them", i, frames, 2);
+    let mut one = calls::new(rt, 1)?;
+    let two = calls::new(rt, 2)?;
+    calls::mark_in(rt, &mut one, 1, 1, frames, 0)?;
+    let p = steps(one, two, WAITING - 1);
+    let mut maker = p.maker;
+    let mut taker = p.taker;
+    calls::mark_in(rt, &mut maker, 1, 65, frames, 1)?;
+    calls::receive_from(rt, "the 64th waiting mark", &mut taker, frames, 1)?;
+    calls::mark_in(rt, &mut maker, 1, 66, frames, 2)?;
+    calls::receive_from(rt, "the 65th waiting mark", &mut taker, frames, 2)?;
+    calls::receive_from(rt, "a known waiting mark", &mut taker, frames, 1)?;
+    calls::receive_from(rt, "1.1 releases them", &mut taker, frames, 0)?;
+    calls::receive_from(rt, "1.66 after them", &mut taker, frames, 2)
 }
 
 // A desk with so many marks of its own.
-fn filled(own: u8, times: usize) -> Desk
-    ensures { Kept result }
+fn filled(rt: &impl Print, own: u8, times: usize) -> io::Result<Desk>
+    ensures { IfOk result Kept }
 {
     let mut space = [0u8; frames::ROOM];
     let out: &mut [u8] = &mut space;
-    let mut desk = calls::new(own);
+    let mut desk = calls::new(rt, own)?;
     let mut i = 0;
     while i < times {
         let r = desk.mark(frames::extent(), out);
@@ -80,69 +82,73 @@ fn filled(own: u8, times: usize) -> Desk
         desk = next;
         i += 1;
     }
-    desk
+    Ok(desk)
 }
 
 // Desk 2 makes 2.1 and 2.2.
-fn others(frames: &mut [u8]) {
-    let a = calls::new(2);
-    let b = calls::mark_in(a, 2, 1, frames, 0);
-    calls::mark_in(b, 2, 2, frames, 1);
+fn others(rt: &impl Print, frames: &mut [u8]) -> io::Result<()> {
+    let mut desk = calls::new(rt, 2)?;
+    calls::mark_in(rt, &mut desk, 2, 1, frames, 0)?;
+    calls::mark_in(rt, &mut desk, 2, 2, frames, 1)
 }
 
 // A desk makes its 512th mark.
-fn executed(desk: Desk, frames: &mut [u8]) -> Desk
-    requires { Kept desk }
-    ensures { Kept result }
+fn executed(rt: &impl Print, desk: &mut Desk, frames: &mut [u8]) -> io::Result<()>
+    requires { Kept desk.old }
+    ensures { Kept desk.new }
 {
-    let a = calls::mark_in(desk, 1, NUMBERS, frames, 2);
-    let b = calls::receive_from(b"full desk receives 2.1", a, frames, 0);
-    calls::receive_from(b"full desk receives 1.512", b, frames, 2)
+    calls::mark_in(rt, desk, 1, NUMBERS, frames, 2)?;
+    calls::receive_from(rt, "full desk receives 2.1", desk, frames, 0)?;
+    calls::receive_from(rt, "full desk receives 1.512", desk, frames, 2)
 }
 
 // A desk with 512 executed marks.
-fn refused(desk: Desk, frames: &mut [u8])
-    requires { Kept desk }
+fn refused(rt: &impl Print, desk: &mut Desk, frames: &mut [u8]) -> io::Result<()>
+    requires { Kept desk.old }
+    ensures { Kept desk.new }
 {
-    calls::mark(b"full desk marks", desk, frames::extent(), frames);
-    calls::relate(desk, 1, 1, 1, NUMBERS);
+    calls::mark(rt, "full desk marks", desk, frames::extent(), frames)?;
+    calls::relate(rt, *desk, 1, 1, 1, NUMBERS)
 }
 
 // 5 comes before 9, and 9 before 13.
-fn refused_by_rising_number(desk: Desk, frames: &mut [u8])
-    requires { Kept desk }
+fn refused_by_rising_number(rt: &impl Print, desk: &mut Desk, frames: &mut [u8]) -> io::Result<()>
+    requires { Kept desk.old }
+    ensures { Kept desk.new }
 {
-    let a = calls::mark(
-        b"full desk marks 1001 to 1000 ms",
+    calls::mark(
+        rt,
+        "full desk marks 1001 to 1000 ms",
         desk,
         frames::boxed(1001, 1000, 100),
         frames,
-    );
-    calls::mark_first(b"full desk marks into 0 bytes", a, frames, 0);
+    )?;
+    calls::mark_first(rt, "full desk marks into 0 bytes", desk, frames, 0)
 }
 
-// A desk with 511 executed marks and one waiting.
-fn with_waiting(desk: Desk, frames: &mut [u8])
+// A desk with 511 executed marks and one waiting, a copy: the caller's has none waiting.
+fn with_waiting(rt: &impl Print, mut desk: Desk, frames: &mut [u8]) -> io::Result<()>
     requires { Kept desk }
 {
-    let a = calls::receive_from(b"511 executed, 2.2", desk, frames, 1);
-    let b = calls::mark(
-        b"511 executed, 1 waiting, marks",
-        a,
+    calls::receive_from(rt, "511 executed, 2.2", &mut desk, frames, 1)?;
+    calls::mark(
+        rt,
+        "511 executed, 1 waiting, marks",
+        &mut desk,
         frames::extent(),
         frames,
-    );
-    let c = calls::receive_from(b"511 executed, 1 waiting, 2.1", b, frames, 0);
-    calls::receive_from(b"511 executed, 1 waiting, 2.2", c, frames, 1);
+    )?;
+    calls::receive_from(rt, "511 executed, 1 waiting, 2.1", &mut desk, frames, 0)?;
+    calls::receive_from(rt, "511 executed, 1 waiting, 2.2", &mut desk, frames, 1)
 }
 
-pub fn full() {
+pub fn full(rt: &impl Print) -> io::Result<()> {
     let mut space = [0u8; 3 * frames::ROOM];
     let frames: &mut [u8] = &mut space;
-    others(frames);
-    let desk = filled(1, PLACES - 1);
-    with_waiting(desk, frames);
-    let last = executed(desk, frames);
-    refused(last, frames);
-    refused_by_rising_number(last, frames);
+    others(rt, frames)?;
+    let mut desk = filled(rt, 1, PLACES - 1)?;
+    with_waiting(rt, desk, frames)?;
+    executed(rt, &mut desk, frames)?;
+    refused(rt, &mut desk, frames)?;
+    refused_by_rising_number(rt, &mut desk, frames)
 }

@@ -1,5 +1,5 @@
 // Sixteen desks in one array exchange their marks out of order, each round in an order of its own.
-ghost use Rattle.std.specs.Prelude.{◌<◌};
+ghost use Rattle.std.specs.Prelude.{IfOk, ◌<◌};
 ghost use Rattle.rows.specs.View.{width};
 ghost use Rattle.desk.specs.StateOf.{Kept};
 ghost use Rattle.desk_vectors.specs.inner.AllKept.{AllKept};
@@ -9,11 +9,12 @@ use crate::{calls, frames, show, sums};
 use desk::Desk;
 use frame::DESKS;
 use rows::WIDTH;
+use std::io;
 
 type Desks = [Desk; WIDTH];
 
 // In which order a desk is handed the others' frames: from desk 16 down, from desk 1 up, or from the next desk round.
-#[derive(Drop)]
+#[derive(Clone, Copy)]
 enum Order {
     Falling,
     Rising,
@@ -47,32 +48,27 @@ fn same_desk(desk: Desk) -> Desks
 }
 
 // Desks 1 to 16.
-fn created() -> Desks
-    ensures { AllKept result }
+fn created(rt: &impl Print) -> io::Result<Desks>
+    ensures { IfOk result AllKept }
 {
-    let r = Desk::new(1);
-    let first = r.desk;
-    let mut desks = same_desk(first);
-    let mut k = 0;
-    while k < DESKS {
-        desks[k as usize] = calls::new(k + 1);
-        k += 1;
+    let mut desks = same_desk(Desk::new(1).desk);
+    for k in 0..DESKS {
+        let d = calls::new(rt, k + 1)?;
+        desks[k as usize] = d;
     }
-    desks
+    Ok(desks)
 }
 
 // Each desk makes its mark of a number, into its slot.
-fn all_make(mut desks: Desks, n: u16, frames: &mut [u8]) -> Desks
-    requires { AllKept desks }
-    ensures { AllKept result }
+#[tactic(auto, using(crate::proofs::Desks::all_set))]
+fn all_make(rt: &impl Print, desks: &mut Desks, n: u16, frames: &mut [u8]) -> io::Result<()>
+    requires { AllKept desks.old }
+    ensures { AllKept desks.new }
 {
-    let mut k = 0;
-    while k < DESKS {
-        let d = desks[k as usize];
-        desks[k as usize] = calls::mark_in(d, k + 1, n, frames, k);
-        k += 1;
+    for k in 0..DESKS {
+        calls::mark_in(rt, &mut desks[k as usize], k + 1, n, frames, k)?;
     }
-    desks
+    Ok(())
 }
 
 // The desk at index k is handed the frame in a slot, unless it is its own.
@@ -103,99 +99,111 @@ fn receives(desk: Desk, k: u8, order: Order, frames: &[u8]) -> Summed
         desk: desk,
         sums: sums::none(),
     };
-    let mut i = 0;
-    while i < DESKS {
+    for i in 0..DESKS {
         s = hand_over(s, k, sender(order, k, i), frames);
-        i += 1;
     }
     s
 }
 
 // The line of the desk at index k.
-fn shown(s: Summed, k: u8, label: &[u8]) -> Desk
-    requires { Kept s.desk }
-    ensures { Kept result }
-{
-    show::number(b"desk ", k as u64 + 1);
-    let sums = s.sums;
-    sums.shown(label);
-    s.desk
+fn shown(rt: &impl Print, sums: Sums, k: u8, label: &str) -> io::Result<()> {
+    show::number(rt, "desk ", k as u64 + 1)?;
+    sums.shown(rt, label)
 }
 
 // Each desk is handed the others' frames.
-fn all_receive(mut desks: Desks, label: &[u8], order: Order, frames: &[u8]) -> Desks
-    requires { AllKept desks }
-    ensures { AllKept result }
+fn all_receive(
+    rt: &impl Print,
+    desks: &mut Desks,
+    label: &str,
+    order: Order,
+    frames: &[u8],
+) -> io::Result<()>
+    requires { AllKept desks.old }
+    ensures { AllKept desks.new }
 {
-    let mut k = 0;
-    while k < DESKS {
-        let d = desks[k as usize];
-        desks[k as usize] = shown(receives(d, k, order, frames), k, label);
-        k += 1;
+    for k in 0..DESKS {
+        let s = receives(desks[k as usize], k, order, frames);
+        desks[k as usize] = s.desk;
+        shown(rt, s.sums, k, label)?;
     }
-    desks
+    Ok(())
 }
 
 // Each desk makes two marks.
-fn two_marks(firsts: &mut [u8], seconds: &mut [u8]) -> Desks
-    ensures { AllKept result }
+fn two_marks(rt: &impl Print, firsts: &mut [u8], seconds: &mut [u8]) -> io::Result<Desks>
+    ensures { IfOk result AllKept }
 {
-    let desks = created();
-    let after = all_make(desks, 1, firsts);
-    all_make(after, 2, seconds)
+    let mut desks = created(rt)?;
+    all_make(rt, &mut desks, 1, firsts)?;
+    all_make(rt, &mut desks, 2, seconds)?;
+    Ok(desks)
 }
 
 // The second marks are handed over before the first.
-fn second_then_first(desks: Desks, firsts: &[u8], seconds: &[u8]) -> Desks
-    requires { AllKept desks }
-    ensures { AllKept result }
+fn second_then_first(
+    rt: &impl Print,
+    desks: &mut Desks,
+    firsts: &[u8],
+    seconds: &[u8],
+) -> io::Result<()>
+    requires { AllKept desks.old }
+    ensures { AllKept desks.new }
 {
-    let after = all_receive(
+    all_receive(
+        rt,
         desks,
-        b" receives the second marks",
+        " receives the second marks",
         Order::Falling,
         seconds,
-    );
-    all_receive(after, b" receives the first marks", Order::Rising, firsts)
+    )?;
+    all_receive(
+        rt,
+        desks,
+        " receives the first marks",
+        Order::Rising,
+        firsts,
+    )
 }
 
 // The first two marks of each desk.
-fn two_rounds() -> Desks
-    ensures { AllKept result }
+fn two_rounds(rt: &impl Print) -> io::Result<Desks>
+    ensures { IfOk result AllKept }
 {
     let mut space = [0u8; WIDTH * frames::ROOM];
     let mut more = [0u8; WIDTH * frames::ROOM];
     let firsts: &mut [u8] = &mut space;
     let seconds: &mut [u8] = &mut more;
-    let desks = two_marks(firsts, seconds);
-    second_then_first(desks, firsts, seconds)
+    let mut desks = two_marks(rt, firsts, seconds)?;
+    second_then_first(rt, &mut desks, firsts, seconds)?;
+    Ok(desks)
 }
 
 // The third marks, each after all that were handed over.
-fn third_round(desks: Desks) -> Desks
-    requires { AllKept desks }
-    ensures { AllKept result }
+fn third_round(rt: &impl Print, desks: &mut Desks) -> io::Result<()>
+    requires { AllKept desks.old }
+    ensures { AllKept desks.new }
 {
     let mut space = [0u8; WIDTH * frames::ROOM];
     let thirds: &mut [u8] = &mut space;
-    let after = all_make(desks, 3, thirds);
-    all_receive(after, b" receives the third marks", Order::Round, thirds)
+    all_make(rt, desks, 3, thirds)?;
+    all_receive(rt, desks, " receives the third marks", Order::Round, thirds)
 }
 
-fn relations(desk: Desk)
+fn relations(rt: &impl Print, desk: Desk) -> io::Result<()>
     requires { Kept desk }
 {
-    calls::relate(desk, 1, 1, DESKS, 3);
-    calls::relate(desk, DESKS, 3, 1, 2);
-    calls::relate(desk, 1, 2, DESKS, 2);
-    calls::relate(desk, 1, 1, DESKS, 2);
-    calls::relate(desk, DESKS, 3, 1, 3);
-    calls::relate(desk, 9, 3, 9, 3);
-    calls::relate(desk, 1, 3, DESKS, 4);
+    calls::relate(rt, desk, 1, 1, DESKS, 3)?;
+    calls::relate(rt, desk, DESKS, 3, 1, 2)?;
+    calls::relate(rt, desk, 1, 2, DESKS, 2)?;
+    calls::relate(rt, desk, 1, 1, DESKS, 2)?;
+    calls::relate(rt, desk, DESKS, 3, 1, 3)?;
+    calls::relate(rt, desk, 9, 3, 9, 3)?;
+    calls::relate(rt, desk, 1, 3, DESKS, 4)
 }
 
-pub fn run() {
-    let desks = third_round(two_rounds());
-    let last = desks[WIDTH - 1];
-    relations(last);
+pub fn run(rt: &impl Print) -> io::Result<()> {
+    let mut desks = two_rounds(rt)?;
+    third_round(rt, &mut desks)?;
+    relations(rt, desks[WIDTH - 1])
 }

@@ -1,0 +1,9 @@
+-- `all_receive` keeps every desk of the array from New and the calls, also where printing fails.
+use Rattle.desk_vectors.proofs.Desks.{all_set}
+use Rattle.desk_vectors.proofs.sixteen.all_receive.Goals as goal
+
+pub returns-in_err-shown : goal.returns-in_err-shown
+returns-in_err-shown g c = all_set c.loop-k.k c.loop-k.invariant c.receives-s.ensures
+
+pub loop-k-preserved : goal.loop-k-preserved
+loop-k-preserved g c = all_set c.loop-k.k c.loop-k.invariant c.receives-s.ensures
