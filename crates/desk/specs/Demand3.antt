@@ -2,7 +2,7 @@
 -- Receive and the converter did within their promises, desks and plain machine agree, Relate answers as the history has it, so does Evidence, a silent
 -- desk leaves the stamps, and Pair tables counts pairs in the history.
 use Rattle.std.specs.Prelude.{◌≡◌, List, [], ◌∷◌, map, ℕ, T}
-use Rattle.std.proofs.Math.Option.{none, some}
+use mathlib.Core.Option.{none, some}
 use Rattle.frame.specs.Answer.{Answer}
 use Rattle.frame.specs.Frame.{over_if, writing}
 use Rattle.frame.specs.Names.{MarkId, desks, is_desk}
