@@ -1,6 +1,6 @@
 -- Both round trips, for both editions at once and an open count of desks. Assumes nothing.
 use Prim.Native.Nat.{◌%◌, ◌*◌, ◌+◌, ◌-◌, ◌/◌, ◌<◌, ◌≤◌, ℕ}
-use borrow.Author.Tests.{eq-eqb, eqb-false, eqb-true, ltb-false, ne_eqb, not-false}
+use borrow.Author.Tests.{eq-eqb, eqb-true, ltb-false, ne_eqb, not-false}
 use lib.ListN.{drop, get_or, length, length-append, length-drop, take}
 use lib.Seq.{drop_at, take_at}
 use lib.Dec.{eqb}
@@ -8,11 +8,13 @@ use mathlib.Core.Bool.{Bool, ◌||◌, false, not, true}
 use mathlib.Core.List.{List, [], ◌++◌, ◌∷◌}
 use mathlib.Core.Path.{◌∙◌, ◌≡◌, ap, refl, sym}
 use native.Mathlib.Omega.{arith}
+use Rattle.frame.specs.declared.Edition.{Edition as CodeEdition}
+use Rattle.frame.specs.declared.Edition.TheVariants.{First, Second}
 use Rattle.frame.specs.declared.Fields.{Fields}
 use Rattle.frame.specs.declared.Past.{Past}
 use Rattle.frame.specs.declared.Past.TheVariants.{Said, Unsaid}
 use Rattle.frame.specs.Answer.{gives}
-use Rattle.frame.specs.Frame.{at2, at4, bytes2, bytes4, count_bad, count_in, edition_of, entries_bad, entries_of, fields_bad, fields_of, frame_of, head_of, length_bad, output_short, part_bad, past_bytes, past_in, read_entries, read_fields, version_bad, write_bytes, write_size}
+use Rattle.frame.specs.Frame.{at2, at4, bytes2, bytes4, count_bad, count_in, edition_of, entries_bad, entries_of, fields_bad, fields_of, frame_of, head_of, length_bad, output_short, part_bad, past_bytes, past_in, read_entries, read_fields, rules, version_bad, write_bytes, write_size}
 use Rattle.frame.specs.RoundTrip.{AreBytes, ReadBack, WriteBack}
 use Rattle.frame.proofs.Bytes.{cells-drop}
 use Rattle.frame.proofs.Tests.{or-false, passes, tests}
@@ -38,28 +40,19 @@ pub first_in : (s : List ℕ) → ¬ (get_or s 2 0 ≡ 2) → past_in s ≡ Unsa
 unfolding past_in
 first_in s n = rw (ne_eqb (get_or s 2 0) 2 n, past_in) refl
 
--- Condition 3 by comparisons.
-pub version_low : (s : List ℕ) → get_or s 2 0 < 1 → version_bad s ≡ true
-unfolding version_bad
-version_low s l =
-    let a : ¬ (get_or s 2 0 ≡ 1) = λ e. omega arith in
-    let b : ¬ (get_or s 2 0 ≡ 2) = λ e. omega arith in
-    rw (ne_eqb _ _ a, ne_eqb _ _ b) refl
+-- The edition of a version byte is the one that is read.
+pub edition_read : (s : List ℕ) (e : CodeEdition) → (rules e).version ≡ get_or s 2 0 → rules e ≡ edition_of (past_in s)
+edition_read s First v = rw (first_in s (λ q. omega arith)) refl
+edition_read s Second v = rw (second_in s (sym v)) refl
 
-pub version_high : (s : List ℕ) → 2 < get_or s 2 0 → version_bad s ≡ true
+pub version_read : (s : List ℕ) (e : CodeEdition) → (rules e).version ≡ get_or s 2 0 → version_bad s ≡ false
 unfolding version_bad
-version_high s l =
-    let a : ¬ (get_or s 2 0 ≡ 1) = λ e. omega arith in
-    let b : ¬ (get_or s 2 0 ≡ 2) = λ e. omega arith in
-    rw (ne_eqb _ _ a, ne_eqb _ _ b) refl
+version_read s First v = rw (← v) refl
+version_read s Second v = rw (← v) refl
 
-pub version_good : (s : List ℕ) → 1 ≤ get_or s 2 0 → get_or s 2 0 ≤ 2 → version_bad s ≡ false
+pub version_wrong : (s : List ℕ) → not (eqb (get_or s 2 0) 1 || eqb (get_or s 2 0) 2) ≡ true → version_bad s ≡ true
 unfolding version_bad
-version_good s l h = go (eqb (get_or s 2 0) 1) refl
-  where
-    go : (b : Bool) → eqb (get_or s 2 0) 1 ≡ b → not (b || eqb (get_or s 2 0) 2) ≡ false
-    go true e = refl
-    go false e = let n : ¬ (get_or s 2 0 ≡ 1) = eqb-false _ _ e in let q : get_or s 2 0 ≡ 2 = omega arith in rw (eq-eqb _ _ q) refl
+version_wrong s h = h
 
 -- The version read is that of the edition read.
 version_is : (s : List ℕ) → version_bad s ≡ false → get_or s 2 0 ≡ (edition_of (past_in s)).version
@@ -123,6 +116,11 @@ accepted N s f h =
       },
       cc,
     )
+
+-- The fields that are read tell the edition of the bytes.
+pub own_edition : (N : ℕ) (s : List ℕ) (f : Fields) → read_fields N s ≡ gives f → edition_of f.past ≡ edition_of (past_in s)
+unfolding fields_of
+own_edition N s f h = ap (λ (f : Fields). edition_of f.past) (sym (accepted N s f h).1)
 
 pub accept : (N : ℕ) (s : List ℕ) → Accepted N s → read_fields N s ≡ gives (fields_of s)
 unfolding read_fields length_bad count_bad
