@@ -1,6 +1,6 @@
 -- The chain of a desk's places, from each mark to the desk's previous one, and finding a mark by it. Assumes nothing.
 use Prim.Native.Nat.{◌-◌, ◌<◌, ◌≤◌, suc, zero, ℕ}
-use lib.Dec.{T, T_not, eqb, eqb→eq, ltb, ltb→lt, nltb→le, not_T}
+use lib.Dec.{T, T_not, eqb, eqb→eq, not_T}
 use lib.ListN.{get_or, length}
 use mathlib.Core.Bool.{Bool, false, not, true}
 use mathlib.Core.List.{List, [], ◌∷◌}
@@ -8,7 +8,9 @@ use mathlib.Core.Logic.{◌⊎◌, inl, inr, ⊎_elim}
 use mathlib.Core.Option.{Option, none, some}
 use mathlib.Core.Path.{◌∙◌, ◌≡◌, ap, refl, subst, sym}
 use native.Mathlib.Omega.{arith}
+use Rattle.std.specs.Prelude.{Option as Maybe, None, Some}
 use Rattle.frame.specs.Names.{MarkId}
+use Rattle.causality.specs.declared.Place.{Place}
 use Rattle.causality.specs.Marks.{find, has, places, same, tally}
 use Rattle.causality.specs.State.{Mark, ids, mark_id}
 use Rattle.causality.proofs.Lists.{find-has, is_some}
@@ -18,12 +20,14 @@ use Rattle.causality.specs.inner.Order.{Consecutive, CausallyOrdered}
 use Rattle.executed.specs.inner.Rows.{Chain, Chained, Finds, Lent, PlaceOf, Rows, last_in, place_in}
 use Rattle.executed.proofs.HeadRow.{eq→eqb}
 use Rattle.executed.proofs.Keeping.{ids-length}
+use Rattle.rows.specs.declared.Executed.{Executed}
+use Rattle.rows.specs.Executed.{executed_in}
 use Rattle.rows.specs.View.{Carried, carried_at, mark_at, names_down, view, width}
 use Rattle.rows.specs.inner.Slots.{Named, place_at}
 use Rattle.rows.proofs.Arrays.{view-length}
 use Rattle.rows.proofs.Places.{ids-names, named-has}
 use Rattle.causality.proofs.Reach.{sound_counted}
-use borrow.Author.Tests.{le-ltb, lt-ltb}
+use borrow.Author.Tests.{lt-ltb}
 
 abbrev name : ℕ → ℕ → MarkId
 name d n = record { desk = d; number = n }
@@ -115,8 +119,8 @@ module _ (is : List MarkId) (ts ls bf : List ℕ) (c : Chain is ts ls bf) (j : �
 -- What the walk comes to.
 module _ (is : List MarkId) (ts ls bf : List ℕ) (c : Chain is ts ls bf) (a : MarkId) where
   -- Not of a desk, not made yet, or no number.
-  pub none_of : ((1 ≤ a.desk) × (a.desk ≤ width) → (a.number < 1) ⊎ (get_or ts (a.desk - 1) 0 < a.number)) → PlaceOf is a places
-  none_of f = record { few = omega arith; stands = λ l. let z : ⊥ = omega arith in absurd z; none = λ l. nT→eq (has a is) (not_T (has a is) absent) }
+  pub none_of : ((1 ≤ a.desk) × (a.desk ≤ width) → (a.number < 1) ⊎ (get_or ts (a.desk - 1) 0 < a.number)) → PlaceOf is a None
+  none_of f = nT→eq (has a is) (not_T (has a is) absent)
     where
       absent : T (has a is) → ⊥
       absent t =
@@ -126,13 +130,13 @@ module _ (is : List MarkId) (ts ls bf : List ℕ) (c : Chain is ts ls bf) (a : M
           let m : get_or ts (a.desk - 1) 0 ≡ tally a.desk is = c.tally (a.desk - 1) (omega arith) ∙ ap (λ (k : ℕ). tally k is) z in
           ⊎_elim (λ x. omega arith) (λ x. omega arith) (f r)
 
-  pub place_of : (p : ℕ) → 1 ≤ p → p ≤ places → p ≡ place_in is a → PlaceOf is a (p - 1)
-  place_of p l h e = record { few = omega arith; stands = λ q. sym e ∙ (let z : p ≡ suc (p - 1) = omega arith in z); none = λ q. let z : ⊥ = omega arith in absurd z }
+  pub place_of : (p : ℕ) → 1 ≤ p → p ≤ places → p ≡ place_in is a → PlaceOf is a (Some (record { 0 = p - 1 }))
+  place_of p l h e = (omega arith, sym e ∙ (let z : p ≡ suc (p - 1) = omega arith in z))
 
--- PLACES AS INDICES OF THE ARRAYS
+-- PLACES AS INDICES OF THE COLUMNS
 
 -- The mark whose name has a place stands there. w: how many counts a row has.
-module _ (w : ℕ) (ds ns : List ℕ) (bs : ℕ → Carried) (ss : List ℕ) where
+module _ (w : ℕ) (ds ns : List ℕ) (bs : ℕ → Carried) (ss : List (List ℕ)) where
   at_place : (count : ℕ) (a : MarkId) (p : ℕ) → place_in (ids (view w count ds ns bs ss)) a ≡ suc p → (p < count) × (find mark_id a (view w count ds ns bs ss) ≡ some (mark_at w ds ns bs ss p))
   unfolding view
   at_place zero a p e = let z : ⊥ = omega arith in absurd z
@@ -147,38 +151,41 @@ module _ (w : ℕ) (ds ns : List ℕ) (bs : ℕ → Carried) (ss : List ℕ) whe
       go true e ih = let n = ids-length l ∙ view-length w k ds ns bs ss in let z : k ≡ p = omega arith in (omega arith, ap (λ (x : ℕ). some (mark_at w ds ns bs ss x)) z)
       go false e ih = let r = ih e in (omega (arith, r.0), r.1)
 
--- LENT ARRAYS
+-- EXECUTED MARKS THAT ARE LENT
 
 -- Those of marks that stand behind what they follow.
-pub lent_of : (count : ℕ) (ds ns : List ℕ) (bs : ℕ → Carried) (ss ts hs ls bf : List ℕ) → Rows (view width count ds ns bs ss) ts hs ls bf → CausallyOrdered (view width count ds ns bs ss)
-    → Named width count ds → count ≤ places → Lent count ds ns ts ls bf
-lent_of count ds ns bs ss ts hs ls bf r s f h = record {
-  few = h;
-  named = f;
-  chain = subst (λ (is : List MarkId). Chain is ts ls bf) (ids-names width ds ns bs ss count) (record {
-    counted = sound_counted (view width count ds ns bs ss) s;
-    few = let n = ids-length (view width count ds ns bs ss) ∙ view-length width count ds ns bs ss in omega arith;
-    named = named-has width ds ns bs ss count f;
-    tally = r.tally;
-    last = r.last;
-    before = r.before;
-  });
-}
+pub lent_of : (a : Executed) → Rows (executed_in a) a.tally a.heads a.last a.before → CausallyOrdered (executed_in a) → Named width a.count a.desks → a.count ≤ places → Lent a
+lent_of a r s f h =
+    let bs = carried_at a.boxes a.pasts in
+    record {
+      few = h;
+      named = f;
+      chain = subst (λ (is : List MarkId). Chain is a.tally a.last a.before) (ids-names width a.desks a.numbers bs a.stamps a.count) (record {
+        counted = sound_counted (executed_in a) s;
+        few = let n = ids-length (executed_in a) ∙ view-length width a.count a.desks a.numbers bs a.stamps in omega arith;
+        named = named-has width a.desks a.numbers bs a.stamps a.count f;
+        tally = r.tally;
+        last = r.last;
+        before = r.before;
+      });
+    }
 
-module _ (count : ℕ) (ds ns ts ls bf : List ℕ) (l : Lent count ds ns ts ls bf) (a : MarkId) (r : ℕ) (f : Finds ts ls bf a r) where
-  place_in_lem : (bs : ℕ → Carried) (ss : List ℕ) → PlaceOf (ids (view width count ds ns bs ss)) a r
-  place_in_lem bs ss = rw (ids-names width ds ns bs ss count) (f (names_down count ds ns) l.chain)
+-- A place that is found is that of the mark, and else the mark is not executed. The names alone tell it.
+module _ (a : Executed) (l : Lent a) (i : MarkId) where
+  names : (bs : ℕ → Carried) (ss : List (List ℕ)) (r : Maybe Place) → Finds a i r → PlaceOf (ids (view width a.count a.desks a.numbers bs ss)) i r
+  names bs ss r f = rw (ids-names width a.desks a.numbers bs ss a.count) (f (names_down a.count a.desks a.numbers) l.chain)
 
-  -- A place that is found is one of the marks', and else the mark is not executed.
-  pub found_inside : r < places → r < count
-  found_inside h = (at_place width ds ns (carried_at [] []) [] count a r ((place_in_lem (carried_at [] []) []).stands h)).0
+  pub found_inside : (p : Place) → Finds a i (Some p) → p.0 < a.count
+  found_inside p f = (at_place width a.desks a.numbers (carried_at [] []) [] a.count i p.0 (names (carried_at [] []) [] (Some p) f).1).0
 
-  pub found-place : (bs : ℕ → Carried) (ss : List ℕ) → place_at width count r ds ns bs ss ≡ find mark_id a (view width count ds ns bs ss)
+  pub found-place : (p : Place) → Finds a i (Some p) → (bs : ℕ → Carried) (ss : List (List ℕ))
+      → place_at width a.count p.0 a.desks a.numbers bs ss ≡ find mark_id i (view width a.count a.desks a.numbers bs ss)
   unfolding place_at
-  found-place bs ss = elim (split (ltb r places)) [
-    | inl t ↦ let h = at_place width ds ns bs ss count a r ((place_in_lem bs ss).stands (ltb→lt r places t)) in rw (lt-ltb r count h.0, place_at) (sym h.1)
-    | inr t ↦ let o = nltb→le r places t in let w = l.few in rw (le-ltb r count (omega arith), place_at) (sym (go (find mark_id a (view width count ds ns bs ss)) (sym (find-has mark_id a (view width count ds ns bs ss)) ∙ (place_in_lem bs ss).none o)))
-  ]
+  found-place p f bs ss = let h = at_place width a.desks a.numbers bs ss a.count i p.0 (names bs ss (Some p) f).1 in rw (lt-ltb p.0 a.count h.0, place_at) (sym h.1)
+
+  pub found-nowhere : Finds a i None → (bs : ℕ → Carried) (ss : List (List ℕ)) → find mark_id i (view width a.count a.desks a.numbers bs ss) ≡ none
+  found-nowhere f bs ss = go (find mark_id i (view width a.count a.desks a.numbers bs ss))
+      (sym (find-has mark_id i (view width a.count a.desks a.numbers bs ss)) ∙ names bs ss None f)
     where
       go : (o : Option Mark) → is_some o ≡ false → o ≡ none
       go none e = refl

@@ -1,4 +1,4 @@
--- The arrays after an execution: one mark more, and the kept rows with it. Assumes nothing.
+-- The columns after an execution: one mark more, and the kept rows with it. Assumes nothing.
 use Prim.Native.Nat.{◌+◌, ◌-◌, ◌<◌, ◌≤◌, suc, ℕ}
 use lib.ListN.{get_or, length, length-set, set}
 use mathlib.Core.List.{List, ◌∷◌}
@@ -8,13 +8,13 @@ use native.Mathlib.Omega.{arith}
 use Rattle.causality.specs.Marks.{places}
 use Rattle.causality.specs.State.{Mark, ids}
 use Rattle.causality.proofs.RowLaws.{entries_strict, row_of-entries}
+use Rattle.rows.specs.declared.Executed.{Executed}
+use Rattle.rows.specs.Executed.{executed_in, stored_in}
 use Rattle.rows.specs.View.{carried_at, width}
 use Rattle.rows.specs.inner.Slots.{held_mark, row_fn}
-use Rattle.rows.specs.inner.Steps.{Stored}
 use Rattle.rows.specs.declared.Held.{Held}
 use Rattle.rows.proofs.Arrays.{view-length}
 use Rattle.rows.proofs.Slots.{stored_slots, stored_view}
-use Rattle.executed.specs.Arrays.{Arrays, arrays, executed_in}
 use Rattle.executed.specs.inner.Takes.{Takes, Took}
 use Rattle.executed.specs.inner.Rows.{Rows, Struck, struck, turned}
 use Rattle.executed.proofs.Keeping.{ids-length, rows_step, set_desk}
@@ -25,14 +25,18 @@ turned_set : (n e v : ℕ) (row h₀ h : List ℕ) → length h ≡ n → 1 ≤ 
 turned_set n e v row h₀ h len p q f = set_desk n e v h (λ j. struck (get_or row j 0) (get_or h₀ j 0)) len p q f
 
 -- What the code stores.
-module _ (a : Arrays) (h : Held) (t : Takes h a) (ds ns bs ps ss hs : List ℕ)
-    (x : Stored a.count h a.desks a.numbers a.boxes a.pasts a.stamps ds ns bs ps ss) (y : Struck h.row a.heads hs) where
-  abbrev after : Arrays
-  after = arrays (a.count + 1) ds ns bs ps ss (set a.tally (h.desk - 1) h.number.0) (set hs (h.desk - 1) h.number.0)
-      (set a.last (h.desk - 1) (a.count + 1)) (set a.before a.count (get_or a.last (h.desk - 1) 0))
+module _ (a : Executed) (h : Held) (t : Takes h a) (wide : length h.row ≡ width) (hs : List ℕ) (y : Struck h.row a.heads hs) where
+  abbrev after : Executed
+  after = record (stored_in a a.count h) {
+    count = a.count + 1;
+    tally = set a.tally (h.desk - 1) h.number.0;
+    heads = set hs (h.desk - 1) h.number.0;
+    last = set a.last (h.desk - 1) (a.count + 1);
+    before = set a.before a.count (get_or a.last (h.desk - 1) 0);
+  }
 
   marks : executed_in after ≡ held_mark h ∷ executed_in a
-  marks = stored_view places a.count h a.desks a.numbers a.boxes a.pasts a.stamps ds ns bs ps ss t.ordered.slots t.room x
+  marks = stored_view a.count h a.desks a.numbers a.boxes a.pasts a.stamps places t.ordered.slots t.room
 
   -- As many names as the count says.
   names : length (ids (executed_in a)) ≡ a.count
@@ -48,7 +52,7 @@ module _ (a : Arrays) (h : Held) (t : Takes h a) (ds ns bs ps ss hs : List ℕ)
   took = record {
     one = let z : a.count + 1 ≡ a.count + 1 = omega arith in z;
     ordered = record {
-      slots = stored_slots places a.count h a.desks a.numbers a.boxes a.pasts a.stamps ds ns bs ps ss t.ordered.slots t.room x;
+      slots = stored_slots a.count h a.desks a.numbers a.boxes a.pasts a.stamps places t.ordered.slots t.room wide;
       rows = subst (λ (l : List Mark). Rows l after.tally after.heads after.last after.before) (sym marks) rows;
     };
     marks = marks;

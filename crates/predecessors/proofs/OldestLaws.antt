@@ -185,7 +185,7 @@ module _ (count : ℕ) (ds ns row₀ : List ℕ) where
   left_end row left p w z = record { within = w.turns; from = λ o. let x : ⊥ = omega arith in absurd x; last = w.last }
 
 -- No mark that a row names is among those before the place of the oldest, whatever their stamps.
-pub oldest_before : (ds ns row : List ℕ) (count r : ℕ) → Oldest ds ns row count r → (bs : ℕ → Carried) (ss : List ℕ) → CausallyOrdered (view width count ds ns bs ss)
+pub oldest_before : (ds ns row : List ℕ) (count r : ℕ) → Oldest ds ns row count r → (bs : ℕ → Carried) (ss : List (List ℕ)) → CausallyOrdered (view width count ds ns bs ss)
     → (j : ℕ) → j < width → 0 < get_or row j 0 → has (record { desk = suc j; number = get_or row j 0 }) (ids (view width r ds ns bs ss)) ≡ false
 unfolding view
 oldest_before ds ns row count zero o bs ss s j h pos = refl

@@ -6,9 +6,11 @@ use Rattle.predecessors.proofs.OldestLaws.{above-names, left-all, left-kept, lef
 use Rattle.predecessors.proofs.SettleLaws.{counted-at, counted-more, counted_no, tally-less, tally-some, total-more, total_part}
 use Rattle.rows.proofs.RowSteps.{counted-first, counted-second, named-at, named_last, named-less, one-turn, pass_ended, passed-all, passed-set, reached_more, reached_no, reached_yes}
 
-pub ruleset for_settle = (named_last, named-less, one-turn, pass_ended, counted-at, tally-less, tally-some)
+pub ruleset for_examine = (named-at, one-turn)
 
-pub ruleset for_trace = (named_last, named-less, one-turn, pass_ended)
+pub ruleset for_settle = (named_last, named-less, pass_ended, counted-at, tally-less, tally-some)
+
+pub ruleset for_trace = (named-less, pass_ended)
 
 pub ruleset for_above = (count_le, sum_none)
 

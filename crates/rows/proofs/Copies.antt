@@ -18,7 +18,7 @@ use Rattle.rows.specs.inner.Slots.{place_at}
 -- The mark of the name, if any, is among the first p.
 pub record Below (n count desk number : ℕ) (ds ns : List ℕ) (p : ℕ) : Type 0 where
   pub turns : p ≤ count
-  pub below : (bs : ℕ → Carried) (ss : List ℕ)
+  pub below : (bs : ℕ → Carried) (ss : List (List ℕ))
       → find mark_id (record { desk = desk; number = number }) (view n count ds ns bs ss) ≡ find mark_id (record { desk = desk; number = number }) (view n p ds ns bs ss)
 
 module _ (n count desk number : ℕ) (ds ns : List ℕ) where
@@ -48,7 +48,7 @@ module _ (n count desk number : ℕ) (ds ns : List ℕ) where
 
   -- The newest of them has the name.
   pub below_hit : (p : ℕ) → Below n count desk number ds ns p → 0 < p → get_or ds (p - 1) 0 ≡ desk → get_or ns (p - 1) 0 ≡ number
-      → (bs : ℕ → Carried) (ss : List ℕ) → place_at n count (p - 1) ds ns bs ss ≡ find mark_id name (view n count ds ns bs ss)
+      → (bs : ℕ → Carried) (ss : List (List ℕ)) → place_at n count (p - 1) ds ns bs ss ≡ find mark_id name (view n count ds ns bs ss)
   unfolding place_at view
   below_hit zero w h d m bs ss = let z : ⊥ = omega arith in absurd z
   below_hit (suc k) w h d m bs ss =
@@ -74,6 +74,6 @@ module _ (n count desk number : ℕ) (ds ns : List ℕ) where
   below_no_number p w h m = below_miss p w h (miss_number (p - 1) m)
 
   -- None is left.
-  pub below_none : (p : ℕ) → Below n count desk number ds ns p → p ≡ 0 → (bs : ℕ → Carried) (ss : List ℕ) → place_at n count count ds ns bs ss ≡ find mark_id name (view n count ds ns bs ss)
+  pub below_none : (p : ℕ) → Below n count desk number ds ns p → p ≡ 0 → (bs : ℕ → Carried) (ss : List (List ℕ)) → place_at n count count ds ns bs ss ≡ find mark_id name (view n count ds ns bs ss)
   unfolding place_at view
   below_none p w e bs ss = rw (le-ltb count count (omega arith), place_at) (sym (w.below bs ss ∙ ap (λ (k : ℕ). find mark_id name (view n k ds ns bs ss)) e))

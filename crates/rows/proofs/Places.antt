@@ -30,7 +30,7 @@ name-place ds ns (suc q) i t = elim (or_yes (same i (name_at ds ns q)) (has i (n
   | inr u ↦ let x = name-place ds ns q i u in let h = x.1 in (x.0, omega arith, x.2)
 ]
 
-module _ (n : ℕ) (ds ns : List ℕ) (bs : ℕ → Carried) (ss : List ℕ) where
+module _ (n : ℕ) (ds ns : List ℕ) (bs : ℕ → Carried) (ss : List (List ℕ)) where
   abbrev at : ℕ → Mark
   at p = mark_at n ds ns bs ss p
 

@@ -1,5 +1,5 @@
 -- Steps of loops over rows, and of `under` over the marks of arrays, at rows of any width. Assumes nothing.
-use Prim.Native.Nat.{◌+◌, ◌-◌, ◌*◌, ◌<◌, ◌≤◌, max, suc, zero, ℕ}
+use Prim.Native.Nat.{◌+◌, ◌-◌, ◌<◌, ◌≤◌, max, suc, zero, ℕ}
 use borrow.Author.Tests.{le-leb, le-ltb, leb-false, leb-true, lt-leb, lt-ltb}
 use lib.Dec.{leb, ltb}
 use lib.ListN.{get_or, length, length-set, set, take}
@@ -11,6 +11,7 @@ use mathlib.Core.Path.{◌∙◌, ◌≡◌, ap, refl, subst, sym}
 use native.Mathlib.Nat.{eq-or-lt_of_le}
 use native.Mathlib.Numerals.{sub-one}
 use native.Mathlib.Omega.{arith}
+use Rattle.std.specs.Ordering.{nat_cmp, ord_max}
 use Rattle.causality.specs.Marks.{All}
 use Rattle.causality.specs.State.{Mark}
 use Rattle.causality.specs.inner.Passes.{row_of, under}
@@ -88,7 +89,7 @@ unfolding Named
 named-less n count ds p f h q l = f q (omega arith)
 
 -- Marks of named desks.
-pub named-desks : (n count : ℕ) (ds ns : List ℕ) (bs : ℕ → Carried) (ss : List ℕ) → Named n count ds → All (λ m. (1 ≤ m.id.desk) × (m.id.desk ≤ n)) (view n count ds ns bs ss)
+pub named-desks : (n count : ℕ) (ds ns : List ℕ) (bs : ℕ → Carried) (ss : List (List ℕ)) → Named n count ds → All (λ m. (1 ≤ m.id.desk) × (m.id.desk ≤ n)) (view n count ds ns bs ss)
 unfolding view Named
 named-desks n count ds ns bs ss f = down-all (mark_at n ds ns bs ss) (λ m. (1 ≤ m.id.desk) × (m.id.desk ≤ n)) count f
 
@@ -110,7 +111,7 @@ under_append (m ∷ xs) ys s r = go (leb m.id.number (max (s m.id.desk) (r m.id.
     go true y n = y
     go false y n = n
 
-module _ (n : ℕ) (ds ns : List ℕ) (bs : ℕ → Carried) (ss : List ℕ) where
+module _ (n : ℕ) (ds ns : List ℕ) (bs : ℕ → Carried) (ss : List (List ℕ)) where
   -- The mark at the last place stands in front.
   pub view_last : (k : ℕ) → 0 < k → view n k ds ns bs ss ≡ mark_at n ds ns bs ss (k - 1) ∷ view n (k - 1) ds ns bs ss
   unfolding view
@@ -130,10 +131,10 @@ module _ (n : ℕ) (ds ns : List ℕ) (bs : ℕ → Carried) (ss : List ℕ) whe
   module _ (s : ℕ → ℕ) where
     -- A mark in front of others is covered, and its row is joined.
     pub under_joined : (p : ℕ) (l : List Mark) → All (λ m. (1 ≤ m.id.desk) × (m.id.desk ≤ n)) l → (row row' : List ℕ)
-        → leb (get_or ns p 0) (max (s (get_or ds p 0)) (row_fn row (get_or ds p 0))) ≡ true → ((j : ℕ) → j < n → get_or row' j 0 ≡ max (get_or row j 0) (get_or ss (p * n + j) 0))
+        → leb (get_or ns p 0) (max (s (get_or ds p 0)) (row_fn row (get_or ds p 0))) ≡ true → ((j : ℕ) → j < n → get_or row' j 0 ≡ max (get_or row j 0) (get_or (get_or ss p []) j 0))
         → (d : ℕ) → 1 ≤ d → d ≤ n → under l s (row_fn row') d ≡ under (mark_at n ds ns bs ss p ∷ l) s (row_fn row) d
-    under_joined p l a row row' q h d lo hi = rw (q, under) (under_cong n l a s s (row_fn row') (λ d. max (row_fn row d) (row_of (entries_of_row n (row_at n ss p)) d)) (λ d lo hi. refl)
-        (λ d lo hi. h (d - 1) (omega arith) ∙ ap (λ (x : ℕ). max (row_fn row d) x) (sym (row_of-entries n (row_at n ss p) d lo hi))) d lo hi)
+    under_joined p l a row row' q h d lo hi = rw (q, under) (under_cong n l a s s (row_fn row') (λ d. max (row_fn row d) (row_of (entries_of_row n (row_at ss p)) d)) (λ d lo hi. refl)
+        (λ d lo hi. h (d - 1) (omega arith) ∙ ap (λ (x : ℕ). max (row_fn row d) x) (sym (row_of-entries n (row_at ss p) d lo hi))) d lo hi)
 
     -- It is not covered.
     pub under-passed : (p : ℕ) (l : List Mark) (row : List ℕ) → leb (get_or ns p 0) (max (s (get_or ds p 0)) (row_fn row (get_or ds p 0))) ≡ false
@@ -150,7 +151,7 @@ module _ (n : ℕ) (ds ns : List ℕ) (bs : ℕ → Carried) (ss : List ℕ) whe
     alone p = let e : suc p - p ≡ 1 = omega arith in rw e refl
 
     pub one-turn : (p : ℕ) (row row' : List ℕ)
-        → ((leb (get_or ns p 0) (max (s (get_or ds p 0)) (row_fn row (get_or ds p 0))) ≡ true) × ((j : ℕ) → j < n → get_or row' j 0 ≡ max (get_or row j 0) (get_or ss (p * n + j) 0)))
+        → ((leb (get_or ns p 0) (max (s (get_or ds p 0)) (row_fn row (get_or ds p 0))) ≡ true) × ((j : ℕ) → j < n → get_or row' j 0 ≡ max (get_or row j 0) (get_or (get_or ss p []) j 0)))
         ⊎ ((leb (get_or ns p 0) (max (s (get_or ds p 0)) (row_fn row (get_or ds p 0))) ≡ false) × (row' ≡ row))
         → (j : ℕ) → j < n → get_or row' j 0 ≡ under (take (suc p - p) (view n (suc p) ds ns bs ss)) s (row_fn row) (suc j)
     one-turn p row row' (inl w) j l = rw (alone p) (ap (λ (k : ℕ). get_or row' k 0) (sym (sub-one (suc j))) ∙ under_joined p [] tt row row' w.0 w.1 (suc j) (omega arith) l)
@@ -181,3 +182,7 @@ module _ (n : ℕ) (ds ns : List ℕ) (bs : ℕ → Carried) (ss : List ℕ) whe
     pass_rest k to h f row row' e d lo hi =
         pass_on (take (k - to) (view n k ds ns bs ss)) (view n to ds ns bs ss) (named-desks n to ds ns bs ss (named-less n k ds to f h)) row row' e d lo hi
         ∙ ap (λ (x : List Mark). under x s (row_fn row) d) (split-view k to h)
+
+-- `a.max(b)` of counts.
+pub max-is : (a b : ℕ) → ord_max nat_cmp a b ≡ max a b
+max-is a b = grind arith

@@ -1,10 +1,12 @@
 -- The rows that a desk keeps beside its executed marks: tally, heads, and the chain of each desk's places. Inner: need not be believed.
-use Rattle.std.specs.Prelude.{◌≡◌, true, false, List, [], ◌∷◌, ℕ, suc, ◌≤◌, ◌<◌, T, eqb, length, get_or}
+use Rattle.std.specs.Prelude.{◌≡◌, true, false, List, [], ◌∷◌, ℕ, suc, ◌≤◌, ◌<◌, T, eqb, length, get_or, Option, None, Some}
 use Rattle.frame.specs.Names.{MarkId}
+use Rattle.causality.specs.declared.Place.{Place}
 use Rattle.causality.specs.Marks.{places, has, same, tally}
 use Rattle.causality.specs.State.{Mark, heads, ids}
 use Rattle.causality.specs.inner.Order.{Consecutive}
 use Rattle.causality.specs.inner.Passes.{row_of}
+use Rattle.rows.specs.declared.Executed.{Executed}
 use Rattle.rows.specs.View.{ZeroFrom, names_down, width}
 use Rattle.rows.specs.inner.Slots.{Named}
 
@@ -44,25 +46,24 @@ pub record Chain (is : List MarkId) (ts ls bf : List ℕ) : Type 0 where
   pub last : (j : ℕ) → j < width → get_or ls j 0 ≡ last_in (suc j) is
   pub before : Chained is bf
 
--- r is the place of the name, or `places` if it is not listed.
-pub record PlaceOf (is : List MarkId) (a : MarkId) (r : ℕ) : Type 0 where
-  pub few : r ≤ places
-  pub stands : r < places → place_in is a ≡ suc r
-  pub none : places ≤ r → has a is ≡ false
+-- r is the place of the name, or none if it is not listed.
+abbrev pub PlaceOf : List MarkId → MarkId → Option Place → Type 0
+PlaceOf is a (Some p) = (p.0 < places) × (place_in is a ≡ suc p.0)
+PlaceOf is a None = has a is ≡ false
 
 -- The chain is that of some names; of all such names r is the place.
-pub record HasChain (ts ls bf : List ℕ) : Type 0 where
+pub record HasChain (a : Executed) : Type 0 where
   pub names : List MarkId
-  pub chain : Chain names ts ls bf
+  pub chain : Chain names a.tally a.last a.before
 
-abbrev pub Finds : List ℕ → List ℕ → List ℕ → MarkId → ℕ → Type 0
-Finds ts ls bf a r = (is : List MarkId) → Chain is ts ls bf → PlaceOf is a r
+abbrev pub Finds : Executed → MarkId → Option Place → Type 0
+Finds a i r = (is : List MarkId) → Chain is a.tally a.last a.before → PlaceOf is i r
 
--- What a query rests on: the marks below `count`, of desks 1 to the width, with their tally and chain.
-pub record Lent (count : ℕ) (ds ns ts ls bf : List ℕ) : Type 0 where
-  pub few : count ≤ places
-  pub named : Named width count ds
-  pub chain : Chain (names_down count ds ns) ts ls bf
+-- What a query rests on: the marks below the count, of desks 1 to the width, with their tally and chain.
+pub record Lent (a : Executed) : Type 0 where
+  pub few : a.count ≤ places
+  pub named : Named width a.count a.desks
+  pub chain : Chain (names_down a.count a.desks a.numbers) a.tally a.last a.before
 
 -- A head h of a desk, after a stamp that names mark x of that desk.
 abbrev pub struck : ℕ → ℕ → ℕ
