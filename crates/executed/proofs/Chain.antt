@@ -18,7 +18,7 @@ use Rattle.causality.proofs.Logic.{T→eq, nT→eq, or_yes, same_refl, same→eq
 use Rattle.causality.proofs.Past.{fresh_of, prefix_has, prefix_le, tally-same}
 use Rattle.causality.specs.inner.Order.{Consecutive, CausallyOrdered}
 use Rattle.executed.specs.inner.Rows.{Chain, Chained, Finds, Lent, PlaceOf, Rows, last_in, place_in}
-use Rattle.executed.proofs.HeadRow.{eq→eqb}
+use Rattle.rows.proofs.Columns.{eq→eqb}
 use Rattle.executed.proofs.Keeping.{ids-length}
 use Rattle.rows.specs.declared.Executed.{Executed}
 use Rattle.rows.specs.Executed.{executed_in}

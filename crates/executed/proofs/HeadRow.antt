@@ -1,6 +1,6 @@
 -- The row of heads after one more execution: heads that the new mark names are struck, its own desk's is set. Assumes nothing.
 use Prim.Native.Nat.{◌≤◌, suc, ℕ}
-use lib.Dec.{T, T_not, eqb, eqb_refl, eqb→eq, leb, leb→le, nleb→lt, not_T}
+use lib.Dec.{T, T_not, eqb, eqb→eq, leb, leb→le, nleb→lt, not_T}
 use mathlib.Core.Bool.{Bool, ◌||◌, false, not, true}
 use mathlib.Core.List.{List, ◌∷◌}
 use mathlib.Core.Logic.{◌⊎◌, inl, inr}
@@ -19,10 +19,8 @@ use Rattle.causality.proofs.Reach.{local, local_hist}
 use Rattle.causality.proofs.RowLaws.{row-entry}
 use Rattle.causality.proofs.Rows.{row-find}
 use Rattle.causality.specs.inner.Passes.{row_of}
+use Rattle.rows.proofs.Columns.{eq→eqb}
 use Rattle.executed.specs.inner.Rows.{struck, turned}
-
-pub eq→eqb : (a b : ℕ) → a ≡ b → T (eqb a b)
-eq→eqb a b e = subst (λ (k : ℕ). T (eqb a k)) e (eqb_refl a)
 
 module _ (m : Mark) (older : List Mark) (s : CausallyOrdered (m ∷ older)) (st : Strict m.stamp) (d : ℕ) where
   abbrev unnamed : MarkId → Bool

@@ -16,7 +16,8 @@ use Rattle.causality.specs.inner.Order.{Strict, CausallyOrdered}
 use Rattle.causality.specs.inner.Passes.{row_of}
 use Rattle.rows.specs.View.{width}
 use Rattle.executed.specs.inner.Rows.{Chained, Rows, last_in, turned}
-use Rattle.executed.proofs.HeadRow.{eq→eqb, head_row-step}
+use Rattle.rows.proofs.Columns.{eq→eqb}
+use Rattle.executed.proofs.HeadRow.{head_row-step}
 
 tally-step : (m : Mark) (older : List Mark) → CausallyOrdered (m ∷ older) → (d : ℕ) → tally d (ids (m ∷ older)) ≡ elim (eqb d m.id.desk) [ true ↦ m.id.number | false ↦ tally d (ids older) ]
 tally-step m older s d = go (eqb d m.id.desk) refl
