@@ -54,15 +54,15 @@ module _ (m : ℕ → Mark) where
         let r = taken i k (omega arith) f (λ p a b. g p a (omega arith)) in
         rw z (λ j. e j ∷ r j)) (eq-or-lt_of_le {n = i} {m = suc k} l)
 
--- The same of arrays: slot i is gone from those after.
-pub view_taken : (n i last : ℕ) (ds ns : List ℕ) (bs : ℕ → Carried) (ss ds' ns' : List ℕ) (bs' : ℕ → Carried) (ss' : List ℕ) → i ≤ last
+-- The same of columns: slot i is gone from those after.
+pub view_taken : (n i last : ℕ) (ds ns : List ℕ) (bs : ℕ → Carried) (ss : List (List ℕ)) (ds' ns' : List ℕ) (bs' : ℕ → Carried) (ss' : List (List ℕ)) → i ≤ last
     → ((p : ℕ) → p < i → mark_at n ds' ns' bs' ss' p ≡ mark_at n ds ns bs ss p) → ((p : ℕ) → i ≤ p → p < last → mark_at n ds' ns' bs' ss' p ≡ mark_at n ds ns bs ss (suc p))
     → view n last ds' ns' bs' ss' ≡ taken_out (last - i) (view n (suc last) ds ns bs ss)
 unfolding view
 view_taken n i last ds ns bs ss ds' ns' bs' ss' l f g = taken (mark_at n ds ns bs ss) (mark_at n ds' ns' bs' ss') i last l f g
 
 -- It goes by its name.
-pub view_without : (n i last : ℕ) (ds ns : List ℕ) (bs : ℕ → Carried) (ss : List ℕ) → i ≤ last → Distinct (view n (suc last) ds ns bs ss)
+pub view_without : (n i last : ℕ) (ds ns : List ℕ) (bs : ℕ → Carried) (ss : List (List ℕ)) → i ≤ last → Distinct (view n (suc last) ds ns bs ss)
     → taken_out (last - i) (view n (suc last) ds ns bs ss) ≡ without mark_id (mark_at n ds ns bs ss i).id (view n (suc last) ds ns bs ss)
 unfolding view
 view_without n i last ds ns bs ss l d = without_taken (mark_at n ds ns bs ss) i last l d
