@@ -5,8 +5,8 @@ use mathlib.Core.List.{List}
 use mathlib.Core.Option.{Option, none, some}
 use mathlib.Core.Path.{◌∙◌, ◌≡◌, ap, sym}
 use Rattle.frame.specs.declared.Refusal.TheVariants.{NotExecuted}
-use Rattle.frame.specs.declared.Writing.{Writing}
-use Rattle.frame.specs.declared.Writing.TheVariants.{Refused as NotWritten}
+use Rattle.std.specs.Prelude.{Err, Result}
+use Rattle.frame.specs.declared.Refusal.{Refusal}
 use Rattle.frame.specs.declared.MarkId.{MarkId}
 use Rattle.rows.specs.declared.Held.{Held}
 use Rattle.frame.specs.Answer.{refused}
@@ -18,7 +18,7 @@ use Rattle.causality.specs.Meaning.{id_of}
 use Rattle.causality.specs.State.{Mark, State, mark_id}
 use Rattle.rows.specs.View.{carried_at, mark_at, width}
 use Rattle.rows.specs.inner.Slots.{held_mark, place_at}
-use Rattle.executed.specs.Arrays.{Arrays}
+use Rattle.rows.specs.declared.Executed.{Executed}
 use Rattle.waiting.specs.declared.Waiting.{Waiting}
 use Rattle.verdict.specs.Kept.{state_in}
 use Rattle.in_place.specs.inner.Steps.{AgainIn}
@@ -36,22 +36,11 @@ module _ (st : State) (x : MarkId) (out : List ℕ) where
   unfolding frame_again_bytes
   bytes_by o e = λ i. elim (e i) [ none ↦ out | some m ↦ over_if (size_of_mark desks m (length out)) (frame_of_mark m) out ]
 
--- p is the mark's place, or none.
-module _ (own : ℕ) (a : Arrays) (q : Waiting) (x : MarkId) (out : List ℕ) (p : ℕ)
-    (f : place_at width a.count p a.desks a.numbers (carried_at a.boxes a.pasts) a.stamps ≡ find mark_id (id_of x) (state_in own a q).executed) where
-  abbrev st : State
-  st = state_in own a q
+  pub not-executed : find mark_id (id_of x) st.executed ≡ none → AgainIn st x out out (Err NotExecuted)
+  not-executed e = record { answer = sym (size_by none e); bytes = sym (bytes_by none e) }
 
-  pub not-executed : a.count ≤ p → AgainIn st x out out (NotWritten NotExecuted)
-  not-executed h =
-      let e = (found_none width a.desks a.numbers (carried_at a.boxes a.pasts) a.stamps a.count p (id_of x) h f).0 in
-      record { answer = sym (size_by st x out none e); bytes = sym (bytes_by st x out none e) }
-
-  pub written-again : p < a.count → (m : Held) → held_mark m ≡ mark_at width a.desks a.numbers (carried_at a.boxes a.pasts) a.stamps p
-      → (w : Writing) (after : List ℕ) → writing w ≡ size_of_mark desks (held_mark m) (length out)
+  pub written-again : (m : Held) → find mark_id (id_of x) st.executed ≡ some (held_mark m)
+      → (w : Result ℕ Refusal) (after : List ℕ) → writing w ≡ size_of_mark desks (held_mark m) (length out)
       → after ≡ over_if (size_of_mark desks (held_mark m) (length out)) (frame_of_mark (held_mark m)) out
       → AgainIn st x out after w
-  written-again h m r w after size bytes =
-      let e : find mark_id (id_of x) st.executed ≡ some (held_mark m)
-      = (found_some width a.desks a.numbers (carried_at a.boxes a.pasts) a.stamps a.count p (id_of x) h f).0 ∙ ap some (sym r) in
-      record { answer = size ∙ sym (size_by st x out (some (held_mark m)) e); bytes = bytes ∙ sym (bytes_by st x out (some (held_mark m)) e) }
+  written-again m e w after size bytes = record { answer = size ∙ sym (size_by (some (held_mark m)) e); bytes = bytes ∙ sym (bytes_by (some (held_mark m)) e) }

@@ -183,6 +183,10 @@ module _ (a : Executed) (l : Lent a) (i : MarkId) where
   unfolding place_at
   found-place p f bs ss = let h = at_place width a.desks a.numbers bs ss a.count i p.0 (names bs ss (Some p) f).1 in rw (lt-ltb p.0 a.count h.0, place_at) (sym h.1)
 
+  pub found-mark : (p : Place) → Finds a i (Some p) → (bs : ℕ → Carried) (ss : List (List ℕ))
+      → find mark_id i (view width a.count a.desks a.numbers bs ss) ≡ some (mark_at width a.desks a.numbers bs ss p.0)
+  found-mark p f bs ss = (at_place width a.desks a.numbers bs ss a.count i p.0 (names bs ss (Some p) f).1).1
+
   pub found-nowhere : Finds a i None → (bs : ℕ → Carried) (ss : List (List ℕ)) → find mark_id i (view width a.count a.desks a.numbers bs ss) ≡ none
   found-nowhere f bs ss = go (find mark_id i (view width a.count a.desks a.numbers bs ss))
       (sym (find-has mark_id i (view width a.count a.desks a.numbers bs ss)) ∙ names bs ss None f)

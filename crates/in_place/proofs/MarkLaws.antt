@@ -27,7 +27,7 @@ use Rattle.causality.specs.Rows.{entries_of_row}
 use Rattle.causality.specs.inner.Passes.{row_of}
 use Rattle.rows.specs.View.{past_from, width}
 use Rattle.rows.specs.inner.Slots.{held_mark, row_fn}
-use Rattle.executed.specs.Arrays.{Arrays}
+use Rattle.rows.specs.declared.Executed.{Executed}
 use Rattle.executed.specs.inner.Takes.{Takes}
 use Rattle.waiting.specs.declared.Waiting.{Waiting}
 use Rattle.verdict.specs.Kept.{KeptIn, state_in}
@@ -53,7 +53,7 @@ module _ (h : Held) (p : Past) (g : p ≡ past_from h.past) (es : List ℕ) (e :
   held_bytes out after f = f ∙ (λ i. write_bytes desks (fields (g i)) (e i) out)
 
 -- The next mark of a kept desk, by its kept rows.
-module _ (own : ℕ) (a : Arrays) (q : Waiting) (k : KeptIn own a q) where
+module _ (own : ℕ) (a : Executed) (q : Waiting) (k : KeptIn own a q) where
   own_count : (t : List ℕ) → ((j : ℕ) → j < width → get_or t j 0 ≡ tally (suc j) (ids (state_in own a q).executed)) → get_or t (own - 1) 0 ≡ tally own (ids (state_in own a q).executed)
   own_count t f = row_at_lem width t (λ e. tally e (ids (state_in own a q).executed)) f own (kept_own own a q k).0 (kept_own own a q k).1
 

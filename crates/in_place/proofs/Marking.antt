@@ -10,8 +10,8 @@ use native.Mathlib.Omega.{arith}
 use Rattle.frame.specs.declared.MarkBox.{MarkBox}
 use Rattle.frame.specs.declared.Refusal.{Refusal}
 use Rattle.frame.specs.declared.Refusal.TheVariants.{DeskFull, FieldRange}
-use Rattle.causality.specs.declared.MarkAnswer.{MarkAnswer as Marking}
-use Rattle.causality.specs.declared.MarkAnswer.TheVariants.{Made, Refused as NotMarked}
+use Rattle.std.specs.Prelude.{Err, Ok, Result}
+use Rattle.causality.specs.declared.Made.{Made}
 use Rattle.rows.specs.declared.Held.{Held}
 use Rattle.frame.specs.Answer.{Answer, gives, number_of, refuse_if, refused}
 use Rattle.frame.specs.Frame.{over_if}
@@ -23,7 +23,7 @@ use Rattle.causality.specs.Marks.{places}
 use Rattle.causality.specs.Meaning.{numbering}
 use Rattle.causality.specs.State.{Mark, State}
 use Rattle.rows.specs.inner.Slots.{held_mark}
-use Rattle.executed.specs.Arrays.{Arrays}
+use Rattle.rows.specs.declared.Executed.{Executed}
 use Rattle.executed.specs.inner.Takes.{Ordered, Took}
 use Rattle.waiting.specs.declared.Waiting.{Waiting}
 use Rattle.verdict.specs.Kept.{KeptIn, state_in}
@@ -43,7 +43,7 @@ module _ (st : State) (b : MarkBox) (out : List ℕ) where
   mark_by a e = λ i. record { state = state_if (e i) (execute (new_mark st b) st) st; answer = e i; bytes = over_if (e i) (frame_of_mark (new_mark st b)) out }
 
 -- A desk is full by its counts.
-module _ (own : ℕ) (a : Arrays) (q : Waiting) (k : KeptIn own a q) where
+module _ (own : ℕ) (a : Executed) (q : Waiting) (k : KeptIn own a q) where
   full-counts : full (state_in own a q) ≡ eqb (a.count + q.count) places
   unfolding full
   full-counts = λ i. eqb (executed-length own a q i + waiting-length own a q i) places
@@ -58,12 +58,12 @@ module _ (own : ℕ) (a : Arrays) (q : Waiting) (k : KeptIn own a q) where
   pub place-left : (n : ℕ) → q.count ≡ n → (a.count + n ≡ places → ⊥) → a.count < places
   place-left n e f = let l = kept-total own a q k in omega arith
 
-module _ (own : ℕ) (a : Arrays) (q : Waiting) (k : KeptIn own a q) (b : MarkBox) (out : List ℕ) where
+module _ (own : ℕ) (a : Executed) (q : Waiting) (k : KeptIn own a q) (b : MarkBox) (out : List ℕ) where
   abbrev st : State
   st = state_in own a q
 
   -- What came of the call is a desk that came from the calls.
-  promised : (c : Arrays) (after : List ℕ) (r : Marking) (x : Answer Numbered) → mark_answer desks st b (length out) ≡ x
+  promised : (c : Executed) (after : List ℕ) (r : Result Made Refusal) (x : Answer Numbered) → mark_answer desks st b (length out) ≡ x
       → state_in own c q ≡ state_if x (execute (new_mark st b) st) st → numbering r ≡ x
       → after ≡ over_if x (frame_of_mark (new_mark st b)) out → Ordered c → MarkedIn own a c q b out after r
   promised c after r x e s n o u = record {
@@ -79,13 +79,13 @@ module _ (own : ℕ) (a : Arrays) (q : Waiting) (k : KeptIn own a q) (b : MarkBo
       state : state_in own c q ≡ (mark desks st b out).state
       state = s ∙ ap (λ (m : Marked). m.state) by
 
-  refusing : (c : Refusal) (after : List ℕ) → mark_answer desks st b (length out) ≡ refused (number_of c) → after ≡ out → MarkedIn own a a q b out after (NotMarked c)
-  refusing c after e o = promised a after (NotMarked c) (refused (number_of c)) e refl refl o k.ordered
+  refusing : (c : Refusal) (after : List ℕ) → mark_answer desks st b (length out) ≡ refused (number_of c) → after ≡ out → MarkedIn own a a q b out after (Err c)
+  refusing c after e o = promised a after (Err c) (refused (number_of c)) e refl refl o k.ordered
 
-  pub box-refused : box_rule b ≡ false → MarkedIn own a a q b out out (NotMarked FieldRange)
+  pub box-refused : box_rule b ≡ false → MarkedIn own a a q b out out (Err FieldRange)
   box-refused e = refusing FieldRange out (answer_by st b out false (full st) (size_of_mark desks (new_mark st b) (length out)) e refl refl) refl
 
-  pub full-refused : box_rule b ≡ true → full st ≡ true → MarkedIn own a a q b out out (NotMarked DeskFull)
+  pub full-refused : box_rule b ≡ true → full st ≡ true → MarkedIn own a a q b out out (Err DeskFull)
   full-refused e f = refusing DeskFull out (answer_by st b out true true (size_of_mark desks (new_mark st b) (length out)) e f refl) refl
 
   -- What the writer found of the next mark.
@@ -97,12 +97,12 @@ module _ (own : ℕ) (a : Arrays) (q : Waiting) (k : KeptIn own a q) (b : MarkBo
     written : after ≡ over_if w (frame_of_mark (new_mark st b)) out
     written = bytes ∙ (λ i. over_if (sym size i) (frame_of_mark (next i)) out)
 
-    pub write-refused : (c : Refusal) → w ≡ refused (number_of c) → MarkedIn own a a q b out after (NotMarked c)
+    pub write-refused : (c : Refusal) → w ≡ refused (number_of c) → MarkedIn own a a q b out after (Err c)
     write-refused c e = refusing c after (answered ∙ ap (numbered (new_mark st b).id.number) e)
         (written ∙ ap (λ (x : Answer ℕ). over_if x (frame_of_mark (new_mark st b)) out) e)
 
-    pub made : (n : ℕ) (c : Arrays) → w ≡ gives n → Took h a c → MarkedIn own a c q b out after (Made h.number n)
-    made n c e x = promised c after (Made h.number n) (gives (record { number = (new_mark st b).id.number; size = n }))
+    pub made : (n : ℕ) (c : Executed) → w ≡ gives n → Took h a c → MarkedIn own a c q b out after (Ok (record { number = h.number; size = n }))
+    made n c e x = promised c after (Ok (record { number = h.number; size = n })) (gives (record { number = (new_mark st b).id.number; size = n }))
         (answered ∙ ap (numbered (new_mark st b).id.number) e)
         ((λ i. record { own = own; executed = x.marks i; waiting = st.waiting }) ∙ ap (λ (m : Mark). execute m st) next)
         (ap (λ (m : Mark). gives (record { number = m.id.number; size = n })) next)

@@ -1,5 +1,7 @@
 -- Receive, from what comes of the mark in a frame to the promise. Assumes nothing.
-use Rattle.causality.specs.declared.ReceiveAnswer.{ReceiveAnswer as Receipt}
+use Rattle.std.specs.Prelude.{Result}
+use Rattle.causality.specs.declared.Received.{Received as Answered}
+use Rattle.frame.specs.declared.Refusal.{Refusal}
 use Prim.Native.Nat.{◌<◌, suc, ℕ}
 use lib.ListN.{get_or}
 use mathlib.Core.Bool.{false}
@@ -20,18 +22,18 @@ use Rattle.causality.specs.inner.Passes.{row_of}
 use Rattle.rows.specs.View.{past_from, width}
 use Rattle.rows.specs.inner.Slots.{held_mark}
 use Rattle.rows.proofs.ByRows.{row-entries}
-use Rattle.executed.specs.Arrays.{Arrays}
+use Rattle.rows.specs.declared.Executed.{Executed}
 use Rattle.verdict.specs.Kept.{KeptIn, state_in}
 use Rattle.arrivals.specs.inner.Steps.{Arrived}
 use Rattle.in_place.specs.inner.Steps.{ReceivedIn}
 
-module _ (own : ℕ) (a : Arrays) (q : Waiting) (k : KeptIn own a q) (s : List ℕ) where
-  pub receipt_refused : (c : ℕ) (r : Receipt) → refused c ≡ read_fields desks s → reception r ≡ refused c → ReceivedIn own a q a q s r
+module _ (own : ℕ) (a : Executed) (q : Waiting) (k : KeptIn own a q) (s : List ℕ) where
+  pub receipt_refused : (c : ℕ) (r : Result Answered Refusal) → refused c ≡ read_fields desks s → reception r ≡ refused c → ReceivedIn own a q a q s r
   unfolding receive_of read_mark
   receipt_refused c r e z = record { state = rw (sym e, receive_of) refl; answer = z ∙ rw (sym e, receive_of) refl; kept = k }
 
   -- What comes of the mark comes of its frame.
-  pub receipt_mark : (f : Fields) → gives f ≡ read_fields desks s → (h : Held) → held_mark h ≡ mark_in desks s → (b : Arrays) (w : Waiting) (r : Receipt) → Arrived own a q b w h r → ReceivedIn own a q b w s r
+  pub receipt_mark : (f : Fields) → gives f ≡ read_fields desks s → (h : Held) → held_mark h ≡ mark_in desks s → (b : Executed) (w : Waiting) (r : Result Answered Refusal) → Arrived own a q b w h r → ReceivedIn own a q b w s r
   unfolding receive_of read_mark
   receipt_mark f e h m b w r p = record { state = state; answer = p.reply ∙ ap (λ (x : Received). x.answer) same; kept = record { from = subst (FromCalls desks) (sym state) (received k.from s); ordered = p.ordered; queued = p.queued } }
     where
