@@ -187,6 +187,9 @@ module _ (a : Executed) (l : Lent a) (i : MarkId) where
       → find mark_id i (view width a.count a.desks a.numbers bs ss) ≡ some (mark_at width a.desks a.numbers bs ss p.0)
   found-mark p f bs ss = (at_place width a.desks a.numbers bs ss a.count i p.0 (names bs ss (Some p) f).1).1
 
+  pub found-absent : Finds a i None → has i (ids (executed_in a)) ≡ false
+  found-absent f = names (carried_at a.boxes a.pasts) a.stamps None f
+
   pub found-nowhere : Finds a i None → (bs : ℕ → Carried) (ss : List (List ℕ)) → find mark_id i (view width a.count a.desks a.numbers bs ss) ≡ none
   found-nowhere f bs ss = go (find mark_id i (view width a.count a.desks a.numbers bs ss))
       (sym (find-has mark_id i (view width a.count a.desks a.numbers bs ss)) ∙ names bs ss None f)

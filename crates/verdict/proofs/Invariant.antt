@@ -12,14 +12,14 @@ use Rattle.rows.specs.View.{carried_at, width}
 use Rattle.rows.specs.inner.Slots.{Named}
 use Rattle.executed.specs.inner.Rows.{Lent}
 use Rattle.executed.proofs.Chain.{lent_of}
-use Rattle.executed.specs.Arrays.{Arrays}
+use Rattle.rows.specs.declared.Executed.{Executed}
 use Rattle.waiting.specs.declared.Waiting.{Waiting}
 use Rattle.verdict.specs.Kept.{KeptIn, state_in}
 use Rattle.rows.proofs.Arrays.{view-length}
 use Rattle.waiting.proofs.UseLaws.{fit_named as named-slots}
 
 -- As many marks as the counts say.
-module _ (own : ℕ) (a : Arrays) (q : Waiting) where
+module _ (own : ℕ) (a : Executed) (q : Waiting) where
   pub executed-length : length (state_in own a q).executed ≡ a.count
   executed-length = view-length width a.count a.desks a.numbers (carried_at a.boxes a.pasts) a.stamps
 
@@ -55,5 +55,5 @@ module _ (own : ℕ) (a : Arrays) (q : Waiting) where
   kept_own k = ((kept_state k).low, (kept_state k).high)
 
   -- What the queries rest on.
-  pub kept-lent : KeptIn own a q → Lent a.count a.desks a.numbers a.tally a.last a.before
-  kept-lent k = lent_of a.count a.desks a.numbers (carried_at a.boxes a.pasts) a.stamps a.tally a.heads a.last a.before k.ordered.rows (kept_sound k) (kept-named k) (kept-count k)
+  pub kept-lent : KeptIn own a q → Lent a
+  kept-lent k = lent_of a k.ordered.rows (kept_sound k) (kept-named k) (kept-count k)

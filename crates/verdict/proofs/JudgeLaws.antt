@@ -56,7 +56,7 @@ pub asked-set : (n : ℕ) (row : List ℕ) (d v : ℕ) → get_or row d 0 ≡ 0 
 asked-set n row d v h j q p = get_or-set_other row d j v 0 (λ z. let w : get_or row j 0 ≡ 0 = ap (λ (i : ℕ). get_or row i 0) z ∙ h in omega arith)
 
 -- A mark that is not below `count` is not below less.
-pub older_none : (n : ℕ) (ds ns : List ℕ) (bs : ℕ → Carried) (ss : List ℕ) (p q : ℕ) → p ≤ q → (i : MarkId) → has i (ids (view n q ds ns bs ss)) ≡ false → has i (ids (view n p ds ns bs ss)) ≡ false
+pub older_none : (n : ℕ) (ds ns : List ℕ) (bs : ℕ → Carried) (ss : List (List ℕ)) (p q : ℕ) → p ≤ q → (i : MarkId) → has i (ids (view n q ds ns bs ss)) ≡ false → has i (ids (view n p ds ns bs ss)) ≡ false
 older_none n ds ns bs ss p q h i e = nT→eq x (not_T x (λ t. subst T e (has_more n ds ns bs ss p q h i t)))
   where
     x : Bool
@@ -99,7 +99,7 @@ tally-none d [] a = refl
 tally-none d (m ∷ l) a = tally-other d m.id (ids l) a.0 ∙ tally-none d l a.1
 
 -- A trace from an empty row over the marks of arrays that stopped at a place: what its row tells of a mark with its stamp as a row.
-module _ (n count to : ℕ) (ds ns : List ℕ) (bs : ℕ → Carried) (ss : List ℕ) (f : Named n count ds) (le : to ≤ count) (row below : List ℕ)
+module _ (n count to : ℕ) (ds ns : List ℕ) (bs : ℕ → Carried) (ss : List (List ℕ)) (f : Named n count ds) (le : to ≤ count) (row below : List ℕ)
     (g : (j : ℕ) → j < n → get_or below j 0 ≡ under (take (count - to) (view n count ds ns bs ss)) (row_fn row) (row_fn (replicate n 0)) (suc j)) (s : CausallyOrdered (view n count ds ns bs ss)) where
   abbrev l : List Mark
   l = view n count ds ns bs ss

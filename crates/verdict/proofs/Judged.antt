@@ -1,7 +1,11 @@
 -- What Receive's tests on rows and counts say of the definitions: 7, and Known or 8. n: how many desks. Assumes nothing.
-use Prim.Native.Nat.{◌≤◌, ℕ}
+use Prim.Native.Nat.{◌-◌, ◌≤◌, suc, ℕ}
 use lib.Dec.{T, eqb, eqb_refl, eqb→eq, ltb, ltb→lt}
-use mathlib.Core.Bool.{Bool, ◌&&◌, ◌||◌, false, true}
+use lib.ListN.{length}
+use lib.Pointwise.{bytes_decides, pointwise}
+use lib.Seq.{ext_get_or}
+use Rattle.std.specs.Prelude.{nat_eq}
+use mathlib.Core.Bool.{Bool, ◌&&◌, ◌||◌}
 use mathlib.Core.List.{List}
 use mathlib.Core.Path.{◌∙◌, ◌≡◌, ap, refl, subst, sym}
 use native.Mathlib.Omega.{arith}
@@ -11,7 +15,7 @@ use Rattle.causality.specs.Marks.{any, tally}
 use Rattle.causality.specs.State.{State, ids, same_count}
 use Rattle.causality.proofs.Fit.{entries-same, same_entries→eq}
 use Rattle.causality.proofs.Lists.{any_find, any_of}
-use Rattle.causality.proofs.Logic.{and_yes, bool_ext, eq→T, yes_and}
+use Rattle.causality.proofs.Logic.{T→eq, and_yes, bool_ext, eq→T, yes_and}
 use Rattle.causality.proofs.RowLaws.{row_of-entries, show, shown}
 use Rattle.causality.specs.Rows.{entries_of_row}
 use Rattle.causality.specs.inner.Passes.{row_of}
@@ -62,26 +66,19 @@ entries_by_row n r s = bool_ext (same_entries (entries_of_row n r) (entries_of_r
     all_of n (λ d. eqb (r d) (s d)) (λ d p q. eq→T (eqb (r d) (s d)) (eq-eqb (r d) (s d) (sym (row_of-entries n r d p q) ∙ ap (λ (es : List MarkId). row_of es d) e ∙ row_of-entries n s d p q))))
     (λ t. rw (entries_cong n r s (λ d p q. eqb→eq (r d) (s d) (all_desk n (λ d. eqb (r d) (s d)) t d p q))) (eq→T _ (entries-same (entries_of_row n s))))
 
--- What same_fields finds is sameness, by the box, the row and the past: the first that differs tells.
+-- Rows are equal where they have the same counts.
+pub row_same : (a b : List ℕ) → length a ≡ width → length b ≡ width → pointwise nat_eq a b ≡ same_counts width (row_fn a) (row_fn b)
+row_same a b la lb = bool_ext (pointwise nat_eq a b) (same_counts width (row_fn a) (row_fn b))
+    (λ t. let e = (bytes_decides a b).0 (T→eq (pointwise nat_eq a b) t) in
+    all_of width (λ d. eqb (row_fn a d) (row_fn b d)) (λ d p q. eq→T (eqb (row_fn a d) (row_fn b d)) (eq-eqb (row_fn a d) (row_fn b d) (ap (λ (xs : List ℕ). row_fn xs d) e))))
+    (λ t. eq→T (pointwise nat_eq a b) ((bytes_decides a b).1 (ext_get_or 0 a b (la ∙ sym lb) (λ j h.
+    let g = eqb→eq (row_fn a (suc j)) (row_fn b (suc j)) (all_desk width (λ d. eqb (row_fn a d) (row_fn b d)) t (suc j) (omega arith) (omega arith)) in
+    let x : suc j - 1 ≡ j = omega arith in
+    (rw x at g)))))
+
+-- What same_fields finds is sameness, by the box, the row and the past.
 module _ (a b : Held) where
-  abbrev boxes : Bool
-  boxes = same_box a.extent b.extent
-
-  abbrev rows : Bool
-  rows = same_counts width (row_fn a.row) (row_fn b.row)
-
-  abbrev counts : Bool
-  counts = same_count (past_from a.past) (past_from b.past)
-
-  by_parts : same_fields (held_mark a) (held_mark b) ≡ (boxes && (rows && counts))
+  pub by_parts : same_fields (held_mark a) (held_mark b)
+      ≡ (same_box a.extent b.extent && (same_counts width (row_fn a.row) (row_fn b.row) && same_count (past_from a.past) (past_from b.past)))
   unfolding same_fields
-  by_parts = ap (λ (x : Bool). boxes && (x && counts)) (entries_by_row width (row_fn a.row) (row_fn b.row))
-
-  pub box_differs : boxes ≡ false → false ≡ same_fields (held_mark a) (held_mark b)
-  box_differs e = sym (by_parts ∙ ap (λ (x : Bool). x && (rows && counts)) e)
-
-  pub row_differs : boxes ≡ true → rows ≡ false → false ≡ same_fields (held_mark a) (held_mark b)
-  row_differs e f = sym (by_parts ∙ (λ i. e i && (f i && counts)))
-
-  pub past_tells : boxes ≡ true → rows ≡ true → counts ≡ same_fields (held_mark a) (held_mark b)
-  past_tells e f = sym (by_parts ∙ (λ i. e i && (f i && counts)))
+  by_parts = ap (λ (x : Bool). same_box a.extent b.extent && (x && same_count (past_from a.past) (past_from b.past))) (entries_by_row width (row_fn a.row) (row_fn b.row))

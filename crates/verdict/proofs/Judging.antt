@@ -1,7 +1,7 @@
 -- What the code of Receive finds, test by test, is the judgement. Assumes nothing.
-use Prim.Native.Nat.{◌+◌, ◌-◌, ◌<◌, ◌≤◌, suc, zero, ℕ}
+use Prim.Native.Nat.{◌+◌, ◌-◌, ℕ}
 use borrow.Author.Tests.{eq-eqb, ne_eqb}
-use lib.Dec.{T, eqb, ltb}
+use lib.Dec.{eqb, ltb}
 use lib.ListN.{get_or, length}
 use mathlib.Core.Bool.{Bool, ◌&&◌, ◌||◌, false, true}
 use mathlib.Core.List.{List, [], ◌++◌, ◌∷◌}
@@ -22,9 +22,9 @@ use Rattle.causality.specs.inner.Fit.{Fit}
 use Rattle.causality.proofs.Missing.{ready-missing}
 use Rattle.causality.proofs.Reach.{sound_counted}
 use Rattle.causality.specs.inner.Order.{CausallyOrdered}
-use Rattle.rows.specs.View.{carried_at, mark_at, past_from, width}
-use Rattle.rows.specs.inner.Slots.{held_id, held_mark, held_with, place_at}
-use Rattle.executed.specs.Arrays.{Arrays}
+use Rattle.rows.specs.View.{past_from, width}
+use Rattle.rows.specs.inner.Slots.{held_id, held_mark}
+use Rattle.rows.specs.declared.Executed.{Executed}
 use Rattle.waiting.specs.declared.Waiting.{Waiting}
 use Rattle.verdict.specs.Kept.{KeptIn, state_in}
 use Rattle.verdict.specs.inner.Steps.{Tallies, known_if, past_kept, unmade_by}
@@ -33,30 +33,25 @@ use Rattle.rows.proofs.ByRows.{row_at_lem}
 use Rattle.predecessors.proofs.MissingLaws.{missing_by-tally}
 use Rattle.verdict.proofs.Invariant.{kept_own}
 use Rattle.verdict.proofs.Judged.{unmade_by-row}
-use Rattle.rows.proofs.Places.{found_none, found_some}
 
--- What is said is not unsaid, and only 0 says nothing.
+-- What is said is not unsaid.
 unsaid_said : (n : ℕ) → Unsaid ≡ Said n → ⊥
 unsaid_said n e = let z : ◌≡◌ {A = ℕ} 0 1 = cc in omega arith
 
-from_unsaid : (r : ℕ) → past_from r ≡ Unsaid → r ≡ 0
-from_unsaid zero e = refl
-from_unsaid (suc n) e = absurd (unsaid_said n (sym e))
-
 -- What was kept of the past of a ready mark tells whether its stamp is false.
-module _ (l : List Mark) (m : Mark) (r : ℕ) (e : past_from r ≡ past_kept l m) where
-  pub kept-none : r ≡ 0 → false_stamp l m ≡ true
-  kept-none z = go (false_stamp l m) refl (ap past_from (sym z) ∙ e)
+module _ (l : List Mark) (m : Mark) where
+  pub kept-none : Unsaid ≡ past_kept l m → false_stamp l m ≡ true
+  kept-none e = go (false_stamp l m) refl e
     where
       go : (b : Bool) → false_stamp l m ≡ b → Unsaid ≡ past_kept l m → b ≡ true
       go true q w = refl
       go false q w = absurd (unsaid_said _ (rw (q, past_kept) at w))
 
-  pub kept-some : (r ≡ 0 → ⊥) → (false_stamp l m ≡ false) × (past_from r ≡ (reckoned l m).past)
-  kept-some z = go (false_stamp l m) refl e
+  pub kept-some : (n : ℕ) → Said n ≡ past_kept l m → (false_stamp l m ≡ false) × (Said n ≡ (reckoned l m).past)
+  kept-some n e = go (false_stamp l m) refl e
     where
-      go : (b : Bool) → false_stamp l m ≡ b → past_from r ≡ past_kept l m → (b ≡ false) × (past_from r ≡ (reckoned l m).past)
-      go true q w = absurd (z (from_unsaid r (rw (q, past_kept) at w)))
+      go : (b : Bool) → false_stamp l m ≡ b → Said n ≡ past_kept l m → (b ≡ false) × (Said n ≡ (reckoned l m).past)
+      go true q w = absurd (unsaid_said n (sym (rw (q, past_kept) at w)))
       go false q w = (refl, rw (q, past_kept) at w)
 
 -- The readiness test, by the tally, yields x.
@@ -94,17 +89,14 @@ module _ (st : State) (h : Held) (t : List ℕ) (count waiting : ℕ) (long : le
       is-ready : ready st.executed (held_mark h) ≡ true
       is-ready = ready_test ∙ eq-eqb x 0 z
 
-      module _ (r : ℕ) (g : T (ready st.executed (held_mark h)) → past_from r ≡ past_kept st.executed (held_mark h)) where
-        found : past_from r ≡ past_kept st.executed (held_mark h)
-        found = g (rw is-ready tt)
+      pub admit-false : Unsaid ≡ past_kept st.executed (held_mark h) → refused 11 ≡ admit st (held_mark h)
+      unfolding admit_by
+      admit-false s = rw (room, admit_by) (rw is-ready (rw (kept-none st.executed (held_mark h) s) refl))
 
-        pub admit-false : r ≡ 0 → refused 11 ≡ admit st (held_mark h)
-        unfolding admit_by
-        admit-false s = rw (room, admit_by) (rw is-ready (rw (kept-none st.executed (held_mark h) r found s) refl))
-
-        pub admit-runs : (r ≡ 0 → ⊥) → gives (executes (held_mark (held_with h r))) ≡ admit st (held_mark h)
-        unfolding admit_by
-        admit-runs s = let k = kept-some st.executed (held_mark h) r found s in rw (room, admit_by) (rw is-ready (rw k.0 (ap (λ (p : Past). gives (executes (with_past (held_mark h) p))) k.1)))
+      pub admit-runs : (n : ℕ) → Said n ≡ past_kept st.executed (held_mark h) → gives (executes (with_past (held_mark h) (Said n))) ≡ admit st (held_mark h)
+      unfolding admit_by
+      admit-runs n s = let k = kept-some st.executed (held_mark h) n s in
+          rw (room, admit_by) (rw is-ready (rw k.0 (ap (λ (p : Past). gives (executes (with_past (held_mark h) p))) k.1)))
 
     -- Not ready.
     module _ (z : x ≡ 0 → ⊥) where
@@ -135,7 +127,7 @@ find_append i (x ∷ xs) ys = go (same i x.id) (find_append i xs ys)
     go false ih = ih
 
 -- The mark passes 7, as the tally tells.
-module _ (own : ℕ) (b : Arrays) (q : Waiting) (h : Held) (k : KeptIn own b q) where
+module _ (own : ℕ) (b : Executed) (q : Waiting) (h : Held) (k : KeptIn own b q) where
   pub kept_tallies : Tallies (state_in own b q).executed b.tally
   kept_tallies = row_at_lem width b.tally (λ e. tally e (ids (state_in own b q).executed)) k.ordered.rows.tally
 
@@ -157,28 +149,20 @@ module _ (own : ℕ) (b : Arrays) (q : Waiting) (h : Held) (k : KeptIn own b q) 
     judge_held a w = rw (unmade_test ∙ made, judge_by) (rw w refl)
 
     -- A mark found among the executed ones, or else among the waiting ones.
-    pub judge-executed : (p : ℕ) (a : Held) → p < b.count
-        → place_at width b.count p b.desks b.numbers (carried_at b.boxes b.pasts) b.stamps ≡ find mark_id (held_id h) (state_in own b q).executed
-        → held_mark a ≡ mark_at width b.desks b.numbers (carried_at b.boxes b.pasts) b.stamps p
+    pub judge-executed : (a : Held) → find mark_id (held_id h) (state_in own b q).executed ≡ some (held_mark a)
         → known_if (same_fields (held_mark a) (held_mark h)) ≡ judge (state_in own b q) (held_mark h)
-    judge-executed p a l e m =
-        let s = found_some width b.desks b.numbers (carried_at b.boxes b.pasts) b.stamps b.count p (held_id h) l e in
+    judge-executed a e =
         judge_held a
-        (find_append (held_id h) (state_in own b q).executed (state_in own b q).waiting ∙ ap (λ (o : Option Mark). or_else o (find mark_id (held_id h) (state_in own b q).waiting)) (s.0 ∙ ap some (sym m)))
+        (find_append (held_id h) (state_in own b q).executed (state_in own b q).waiting ∙ ap (λ (o : Option Mark). or_else o (find mark_id (held_id h) (state_in own b q).waiting)) e)
 
-    module _ (n : find mark_id (held_id h) (state_in own b q).executed ≡ none) (i : ℕ)
-        (e : place_at width q.count i q.desks q.numbers (carried_at q.boxes q.pasts) q.stamps ≡ find mark_id (held_id h) (state_in own b q).waiting) where
+    module _ (n : find mark_id (held_id h) (state_in own b q).executed ≡ none) where
       both : (o : Option Mark) → find mark_id (held_id h) (state_in own b q).waiting ≡ o → find mark_id (held_id h) ((state_in own b q).executed ++ (state_in own b q).waiting) ≡ o
       both o w = find_append (held_id h) (state_in own b q).executed (state_in own b q).waiting ∙ ap (λ (x : Option Mark). or_else x (find mark_id (held_id h) (state_in own b q).waiting)) n ∙ w
 
-      pub judge-waiting : (a : Held) → i < q.count → held_mark a ≡ mark_at width q.desks q.numbers (carried_at q.boxes q.pasts) q.stamps i
+      pub judge-waiting : (a : Held) → find mark_id (held_id h) (state_in own b q).waiting ≡ some (held_mark a)
           → known_if (same_fields (held_mark a) (held_mark h)) ≡ judge (state_in own b q) (held_mark h)
-      judge-waiting a l m =
-          let s = found_some width q.desks q.numbers (carried_at q.boxes q.pasts) q.stamps q.count i (held_id h) l e in
-          judge_held a (both (some (held_mark a)) (s.0 ∙ ap some (sym m)))
+      judge-waiting a e = judge_held a (both (some (held_mark a)) e)
 
-      pub judge-new : q.count ≤ i → admit (state_in own b q) (held_mark h) ≡ judge (state_in own b q) (held_mark h)
+      pub judge-new : find mark_id (held_id h) (state_in own b q).waiting ≡ none → admit (state_in own b q) (held_mark h) ≡ judge (state_in own b q) (held_mark h)
       unfolding judge_by
-      judge-new l =
-          let w = both none (found_none width q.desks q.numbers (carried_at q.boxes q.pasts) q.stamps q.count i (held_id h) l e).0 in
-          rw (unmade_test ∙ made, judge_by) (rw w refl)
+      judge-new e = rw (unmade_test ∙ made, judge_by) (rw (both none e) refl)
