@@ -1,7 +1,10 @@
--- What the row tests of the code say of the definitions: ready, false stamps, stamps of rows. n: how many desks. Assumes nothing.
+-- What the row tests of the code say of the definitions: ready, false stamps, stamps of rows, equal rows. n: how many desks. Assumes nothing.
 use Prim.Native.Nat.{◌+◌, ◌-◌, ◌<◌, ◌≤◌, max, suc, zero, ℕ}
-use lib.Dec.{T, leb, ltb, ltb→lt}
-use lib.ListN.{get_or}
+use borrow.Author.Tests.{eq-eqb}
+use lib.Dec.{T, eqb, eqb→eq, leb, ltb, ltb→lt}
+use lib.ListN.{get_or, length}
+use lib.Pointwise.{bytes_decides, pointwise}
+use lib.Seq.{ext_get_or}
 use mathlib.Core.Bool.{Bool, ◌&&◌, ◌||◌, false, true}
 use mathlib.Core.List.{List, [], ◌∷◌}
 use mathlib.Core.Path.{◌∙◌, ◌≡◌, ap, refl, sym}
@@ -12,14 +15,14 @@ use Rattle.frame.specs.declared.Past.{Past}
 use Rattle.frame.specs.Names.{MarkId}
 use Rattle.causality.specs.Marks.{All, any, has}
 use Rattle.causality.specs.State.{Mark, false_entries, ready}
-use Rattle.causality.proofs.Logic.{and_cong}
+use Rattle.causality.proofs.Logic.{T→eq, and_cong, bool_ext, eq→T}
 use Rattle.causality.specs.inner.Order.{Strict, CausallyOrdered}
 use Rattle.causality.proofs.RowLaws.{entries_of_row_lem, false_by_rows, row_of-entries, shown, any_entries}
 use Rattle.causality.specs.Rows.{entries_from, entries_of_row}
 use Rattle.causality.specs.inner.Passes.{row_of, under}
-use Rattle.rows.specs.inner.Slots.{row_fn}
+use Rattle.rows.specs.inner.Slots.{row_fn, same_counts}
 use Rattle.causality.specs.inner.Upto.{some_reached}
-use Rattle.causality.proofs.Upto.{any_to_cong}
+use Rattle.causality.proofs.Upto.{all_desk, all_of, any_to_cong}
 
 -- A row that is known count by count.
 pub row_at_lem : (n : ℕ) (r : List ℕ) (f : ℕ → ℕ) → ((j : ℕ) → j < n → get_or r j 0 ≡ f (suc j)) → (d : ℕ) → 1 ≤ d → d ≤ n → row_fn r d ≡ f d
@@ -97,3 +100,13 @@ false_by-row n l s ds row below f i b said lo hi f' t =
 pub row-entries : (n : ℕ) (es : List MarkId) (r : List ℕ) → Strict es → ((e : MarkId) → T (has e es) → (1 ≤ e.desk) × (e.desk ≤ n) × (1 ≤ e.number))
     → ((j : ℕ) → j < n → get_or r j 0 ≡ row_of es (suc j)) → entries_of_row n (row_fn r) ≡ es
 row-entries n es r s g f = entries_cong n (row_fn r) (row_of es) (row_at_lem n r (row_of es) f) ∙ entries_of_row_lem n es s g
+
+-- EQUAL ROWS
+
+-- `a == b` of rows asks that their counts be the same.
+pub rows-same : (n : ℕ) (a b : List ℕ) → length a ≡ n → length b ≡ n → pointwise eqb a b ≡ same_counts n (row_fn a) (row_fn b)
+rows-same n a b p q = bool_ext (pointwise eqb a b) (same_counts n (row_fn a) (row_fn b))
+    (λ t. all_of n (λ d. eqb (row_fn a d) (row_fn b d)) (λ d lo hi. let e = (bytes_decides a b).0 (T→eq (pointwise eqb a b) t) in
+    eq→T (eqb (row_fn a d) (row_fn b d)) (eq-eqb (row_fn a d) (row_fn b d) (ap (λ (r : List ℕ). row_fn r d) e))))
+    (λ t. eq→T (pointwise eqb a b) ((bytes_decides a b).1 (ext_get_or 0 a b (p ∙ sym q) (λ j h.
+    let z : suc j - 1 ≡ j = sub-one (suc j) in rw z at (eqb→eq (row_fn a (suc j)) (row_fn b (suc j)) (all_desk n (λ d. eqb (row_fn a d) (row_fn b d)) t (suc j) (omega arith) (omega arith)))))))

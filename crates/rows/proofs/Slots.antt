@@ -37,6 +37,9 @@ zeros n p = filled 0 n p
 pub zero-all : (n k : ℕ) → ZeroFrom (replicate n 0) n k
 zero-all n k = unused-all 0 n k
 
+pub zero_one : (xs : List ℕ) (n k v : ℕ) → ZeroFrom xs n k → ZeroFrom (set xs k v) n (k + 1)
+zero_one xs n k v z = unused_one 0 xs n k v z
+
 -- ROWS
 
 row_in : (n p : ℕ) (r : List ℕ) → p < n → get_or (replicate n r) p [] ≡ r
