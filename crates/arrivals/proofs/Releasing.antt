@@ -1,6 +1,6 @@
 -- The release, turn by turn: what one turn does to the executed and the waiting marks. Assumes nothing.
-use Prim.Native.Nat.{◌+◌, ◌<◌}
-use borrow.Author.Tests.{eqb-false}
+use Prim.Native.Nat.{◌+◌, ◌<◌, ◌≤◌, ℕ}
+use borrow.Author.Tests.{eqb-false, ltb-false}
 use lib.Dec.{T, T_not, not_T}
 use lib.ListN.{length}
 use mathlib.Core.Bool.{false, not, true}
@@ -9,8 +9,10 @@ use mathlib.Core.Logic.{inl, inr}
 use mathlib.Core.Option.{some}
 use mathlib.Core.Path.{◌≡◌, refl}
 use native.Mathlib.Omega.{arith}
-use Rattle.frame.specs.declared.Past.TheVariants.{Unsaid}
-use Rattle.frame.specs.Names.{desks}
+use Rattle.std.proofs.Common.{Fits, w16}
+use Rattle.frame.specs.declared.Past.TheVariants.{Said, Unsaid}
+use Rattle.frame.specs.Frame.{past_bad}
+use Rattle.frame.specs.Names.{desks, pasts}
 use Rattle.causality.specs.Calls.{FromCalls, full, rules}
 use Rattle.causality.specs.Marks.{has, lowest, places, same, without}
 use Rattle.causality.specs.State.{Mark, State, false_stamp, ids, mark_id, ready, reckoned}
@@ -90,3 +92,10 @@ between_arrived st m c f a b g =
       executed = (count_fit desks (omega arith) (reckoned st.executed m) st.executed r.sound (omega arith) (fit_with desks (omega arith) m Unsaid f refl), k.executed);
       waiting = k.waiting;
     }
+
+-- A past that a frame can carry is in range.
+pub said_few : (n : ℕ) → past_bad (Said n) ≡ false → n ≤ pasts
+said_few n e = let h = ltb-false pasts n e in omega arith
+
+pub next_fits : (n : ℕ) → n ≤ pasts → Fits w16 (n + 1)
+next_fits n l = omega arith
