@@ -1,9 +1,9 @@
 -- The next mark of a desk and the frame of a mark that is held, by what the row functions and the writer ensure. Assumes nothing.
 use Prim.Native.Nat.{◌+◌, ◌-◌, ◌<◌, ◌≤◌, suc, ℕ}
 use lib.Dec.{T}
-use lib.ListN.{get_or, length, take}
+use lib.ListN.{get_or, length}
 use mathlib.Core.List.{List, ◌∷◌}
-use mathlib.Core.Path.{◌∙◌, ◌≡◌, ap, refl, subst, sym}
+use mathlib.Core.Path.{◌∙◌, ◌≡◌, ap, subst, sym}
 use native.Mathlib.Numerals.{add-one}
 use native.Mathlib.Omega.{arith}
 use Rattle.frame.specs.declared.MarkBox.{MarkBox}
@@ -34,10 +34,6 @@ use Rattle.verdict.specs.Kept.{KeptIn, state_in}
 use Rattle.in_place.specs.inner.Steps.{next_held}
 use Rattle.rows.proofs.ByRows.{row_at_lem, row-entries}
 use Rattle.verdict.proofs.Invariant.{executed-length, kept-count, kept_fit, kept_own, kept_sound}
-
--- A part of an array from its start on is its first elements.
-pub first_part : (bytes : List ℕ) (size : ℕ) → take (size - 0) bytes ≡ take size bytes
-first_part bytes size = let z : size - 0 ≡ size = omega arith in rw z refl
 
 -- The frame of a mark: p is its past, es are the bytes of its entries.
 module _ (h : Held) (p : Past) (g : p ≡ past_from h.past) (es : List ℕ) (e : es ≡ entry_bytes (entries_of_row width (row_fn h.row))) where
