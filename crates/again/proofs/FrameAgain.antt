@@ -1,9 +1,9 @@
 -- Frame again by its two ways out: the mark is at no place, or its frame is written from its place. Assumes nothing.
-use Prim.Native.Nat.{◌<◌, ◌≤◌, ℕ}
+use Prim.Native.Nat.{ℕ}
 use lib.ListN.{length}
 use mathlib.Core.List.{List}
 use mathlib.Core.Option.{Option, none, some}
-use mathlib.Core.Path.{◌∙◌, ◌≡◌, ap, sym}
+use mathlib.Core.Path.{◌∙◌, ◌≡◌, sym}
 use Rattle.frame.specs.declared.Refusal.TheVariants.{NotExecuted}
 use Rattle.std.specs.Prelude.{Err, Result}
 use Rattle.frame.specs.declared.Refusal.{Refusal}
@@ -16,13 +16,8 @@ use Rattle.causality.specs.Calls.{frame_again_bytes, frame_again_size, frame_of_
 use Rattle.causality.specs.Marks.{find}
 use Rattle.causality.specs.Meaning.{id_of}
 use Rattle.causality.specs.State.{Mark, State, mark_id}
-use Rattle.rows.specs.View.{carried_at, mark_at, width}
-use Rattle.rows.specs.inner.Slots.{held_mark, place_at}
-use Rattle.rows.specs.declared.Executed.{Executed}
-use Rattle.waiting.specs.declared.Waiting.{Waiting}
-use Rattle.verdict.specs.Kept.{state_in}
+use Rattle.rows.specs.inner.Slots.{held_mark}
 use Rattle.in_place.specs.inner.Steps.{AgainIn}
-use Rattle.rows.proofs.Places.{found_none, found_some}
 
 -- The definition where it is known what is found.
 module _ (st : State) (x : MarkId) (out : List ℕ) where
