@@ -1,19 +1,9 @@
 -- The lemmas that a function's proof is tried with, where their names are no Rust names.
-use Rattle.desk.proofs.Invariant.{kept-lent, kept-marks, kept_sound}
-use Rattle.rows.proofs.Slots.{slots-none, zero-all}
+use Rattle.causality.proofs.Fit.{desk_facts}
+use Rattle.desk.proofs.Invariant.{desk_is, kept_empty}
 
-pub ruleset for_desk_apart_list = (kept-lent, kept_sound)
+pub ruleset for_queries = (desk_is)
 
-pub ruleset for_desk_evidence_list = (kept-lent, kept_sound)
+pub ruleset for_new_blank = (desk_is, kept_empty)
 
-pub ruleset for_desk_find_apart = (kept-lent, kept_sound)
-
-pub ruleset for_desk_find_evidence = (kept-lent, kept_sound)
-
-pub ruleset for_desk_first_apart = (kept-lent, kept_sound)
-
-pub ruleset for_desk_pair_tables = (kept-marks, kept_sound)
-
-pub ruleset for_desk_relate = (kept-lent, kept_sound)
-
-pub ruleset for_new_blank = (slots-none, zero-all)
+pub ruleset for_new = (desk_facts)
