@@ -1,7 +1,6 @@
 -- The lemmas that a function's proof is tried with, where their names are no Rust names.
 use Rattle.queries.proofs.InPast.{counts_last, counts_met, in_past_reached, in_past_traced}
 use Rattle.queries.proofs.Reaching.{reach_end, reach_joined, reach_passed}
-use Rattle.queries.proofs.Relating.{relate_back, relate_forward, relate_no_first, relate_no_second, relate-same}
 use Rattle.rows.proofs.Arrays.{sound_below}
 use Rattle.rows.proofs.RowSteps.{named-at, named-less, pass_rest}
 
@@ -14,5 +13,3 @@ pub ruleset for_past_past = (pass_rest, in_past_traced)
 pub ruleset for_relate_follow = (sound_below, named-at, named-less, reach_end, reach_joined, reach_passed)
 
 pub ruleset for_relate_precedes = (named-at)
-
-pub ruleset for_relate_relate = (named-less, relate_back, relate_forward, relate_no_first, relate_no_second, relate-same)
