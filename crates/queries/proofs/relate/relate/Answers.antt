@@ -14,11 +14,13 @@ returns-then-p-ge-PLACES c count own bs waiting l sound =
 
 pub precedes-requires : goal.precedes-requires
 precedes-requires c =
-    (ranked _ _ Less c.in-Less.ensures, c.if-q-ge-PLACES.false, named_found _ _ _ _ _ c.requires _ _ c.find-q.ensures c.if-q-ge-PLACES.false)
+    let l = c.if-q-ge-PLACES.false in
+    record { order = ranked _ _ Less c.in-Less.ensures; place = l; named = named_found _ _ _ _ _ c.requires _ _ c.find-q.ensures l }
 
 pub precedes-requires-in-Greater-1 : goal.precedes-requires-in-Greater-1
 precedes-requires-in-Greater-1 c =
-    (ranked _ _ Greater c.in-Greater.ensures, c.if-p-ge-PLACES.false, named_found _ _ _ _ _ c.requires _ _ c.find-p.ensures c.if-p-ge-PLACES.false)
+    let l = c.if-p-ge-PLACES.false in
+    record { order = ranked _ _ Greater c.in-Greater.ensures; place = l; named = named_found _ _ _ _ _ c.requires _ _ c.find-p.ensures l }
 
 pub returns-in-Equal : goal.returns-in-Equal
 returns-in-Equal c count own bs waiting l sound =
