@@ -1,6 +1,6 @@
 -- The lemmas that a function's proof is tried with, where their names are no Rust names.
 use Rattle.queries.proofs.InPast.{counts_last, counts_met, in_past_reached, in_past_traced}
-use Rattle.queries.proofs.Reaching.{reach_end, reach_joined, reach_passed}
+use Rattle.queries.proofs.Reaching.{reach_joined, reach_passed}
 use Rattle.rows.proofs.Arrays.{sound_below}
 use Rattle.rows.proofs.RowSteps.{named-at, named-less, pass_rest}
 
@@ -10,6 +10,6 @@ pub ruleset for_in_past_in_past = (sound_below, in_past_reached)
 
 pub ruleset for_past_past = (pass_rest, in_past_traced)
 
-pub ruleset for_relate_follow = (sound_below, named-at, named-less, reach_end, reach_joined, reach_passed)
+pub ruleset for_relate_follow = (sound_below, named-at, named-less, reach_joined, reach_passed)
 
 pub ruleset for_relate_precedes = (named-at)
