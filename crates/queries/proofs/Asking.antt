@@ -52,23 +52,24 @@ module _ (n : ℕ) (ds ns : List ℕ) (bs : ℕ → Carried) (ss : List ℕ) (i 
   ]
 
 module _ (ds ns ss row : List ℕ) (at : ℕ) (i : MarkId) where
-  -- It ends where it begins, by one of two tests: the row stays.
-  module _ (l : length row ≡ width) (made : ℕ) (m : made ≡ tally i.desk (names_down at ds ns)) where
-    asked_end : ends_at ds ns i at (row_fn row i.desk) ≡ true → AskedOf ds ns ss row at i row made at
-    asked_end e = record {
-      less = omega arith;
-      long = l;
-      counts = λ bs j h. pass_ended width ds ns bs ss (λ d. 0) at at row (omega arith) j;
-      standing = m;
-      ends = e;
-      first = λ bs q lo hi. let z : ⊥ = omega arith in absurd z;
-    }
+  module _ (made : ℕ) (m : made ≡ tally i.desk (names_down at ds ns)) where
+    -- It ends where it begins, by one of two tests: the row stays.
+    module _ (l : length row ≡ width) where
+      asked_end : ends_at ds ns i at (row_fn row i.desk) ≡ true → AskedOf ds ns ss row at i row made at
+      asked_end e = record {
+        less = omega arith;
+        long = l;
+        counts = λ bs j h. pass_ended width ds ns bs ss (λ d. 0) at at row (omega arith) j;
+        standing = m;
+        ends = e;
+        first = λ bs q lo hi. let z : ⊥ = omega arith in absurd z;
+      }
 
-    pub asked-counted : i.number ≤ row_fn row i.desk → AskedOf ds ns ss row at i row made at
-    asked-counted h = asked_end (rw (le-leb i.number (row_fn row i.desk) h) refl)
+      pub asked-counted : i.number ≤ row_fn row i.desk → AskedOf ds ns ss row at i row made at
+      asked-counted h = asked_end (rw (le-leb i.number (row_fn row i.desk) h) refl)
 
-    pub asked-passed : made < i.number → AskedOf ds ns ss row at i row made at
-    asked-passed h = asked_end (rw (lt-ltb (tally i.desk (names_down at ds ns)) i.number (omega arith)) (or-true (leb i.number (row_fn row i.desk))))
+      pub asked-passed : made < i.number → AskedOf ds ns ss row at i row made at
+      asked-passed h = asked_end (rw (lt-ltb (tally i.desk (names_down at ds ns)) i.number (omega arith)) (or-true (leb i.number (row_fn row i.desk))))
 
     -- It does not end there, by both: then there is a place before.
     module _ (h : row_fn row i.desk < i.number) (k : i.number ≤ made) where
