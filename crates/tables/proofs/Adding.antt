@@ -1,16 +1,16 @@
 -- A mark is added to the tables, desk by desk. n: how many desks. Assumes nothing.
-use Prim.Native.Nat.{◌*◌, ◌+◌, ◌-◌, ◌<◌, ◌≤◌, suc, ℕ}
+use Prim.Native.Nat.{◌+◌, ◌-◌, ◌<◌, ℕ}
 use borrow.Author.Tests.{le-ltb, lt-ltb}
 use lib.Dec.{T_not, eqb, eqb_refl, eqb→eq, ltb, ltb→lt, nltb→le}
 use lib.ListN.{get_or}
 use mathlib.Core.Bool.{Bool, cond, false, true}
 use mathlib.Core.List.{List}
 use mathlib.Core.Logic.{inl, inr}
-use mathlib.Core.Path.{◌∙◌, ◌≡◌, ap, refl, sym}
+use mathlib.Core.Path.{◌≡◌, refl}
 use native.Mathlib.Omega.{arith}
 use Rattle.causality.proofs.Logic.{split}
 use Rattle.tables.specs.declared.Tables.{Tables}
-use Rattle.tables.specs.inner.Steps.{Added, Square, cell}
+use Rattle.tables.specs.inner.Steps.{cell}
 use Rattle.tables.proofs.Cells.{Grid, grid_cong, grid-put, put}
 
 -- x of the indices below k, and of k: x of those below k + 1.
@@ -50,16 +50,6 @@ module _ (n d : ℕ) (past made : List ℕ) (t : Tables) where
     pub apart : Grid n (apart_to k) u.apart
     pub before : Grid n (before_to k) u.before
 
-  pub adding_none : Square n t.apart → Square n t.before → Adding t 0
-  adding_none a b = record {
-    apart = record { square = a; cells = λ i c hi hc. rw (le-ltb i 0 (omega arith), le-ltb c 0 (omega arith)) (none (eqb i d) (cell t.apart i c)) };
-    before = record { square = b; cells = λ i c hi hc. rw (le-ltb i 0 (omega arith)) (omega arith) };
-  }
-    where
-      none : (b : Bool) (x : ℕ) → x ≡ x + 0 + cond b 0 0
-      none true x = omega arith
-      none false x = omega arith
-
   module _ (hd : d < n) (u : Tables) (k : ℕ) (w : Adding u k) (hk : k < n) (x y : ℕ) (ex : x ≡ get_or past k 0) (ey : y ≡ apart_of k) where
     abbrev column : List (List ℕ)
     column = put u.apart k d (cell u.apart k d + y)
@@ -88,11 +78,3 @@ module _ (n d : ℕ) (past made : List ℕ) (t : Tables) where
           let p = one_index (λ j. cond (eqb c d) (get_or past j 0) 0) i k in
           omega arith);
     }
-
-  pub adding_all : (u : Tables) (k : ℕ) → Adding u k → n ≤ k → Added n d past made t u
-  adding_all u k w h = record {
-    apart = w.apart.square;
-    before = w.before.square;
-    apart_cells = λ i j hi hj. w.apart.cells i j hi hj ∙ rw (lt-ltb i k (omega arith), lt-ltb j k (omega arith)) refl;
-    before_cells = λ i j hi hj. w.before.cells i j hi hj ∙ rw (lt-ltb i k (omega arith)) refl;
-  }

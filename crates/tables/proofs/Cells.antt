@@ -1,5 +1,5 @@
 -- The counts of a table by row and column, when one of them is set. n: how many desks. Assumes nothing.
-use Prim.Native.Nat.{◌+◌, ◌<◌, ◌≤◌, suc, ℕ}
+use Prim.Native.Nat.{◌+◌, ◌<◌, ℕ}
 use lib.Dec.{T_not, eqb, eqb_refl, eqb→eq}
 use lib.ListN.{get_or, length, length-set, set}
 use lib.Seq.{get_or-set_other, get_or-set_same}
@@ -57,7 +57,7 @@ module _ (n : ℕ) (F : ℕ → ℕ → ℕ) (t : List (List ℕ)) (w : Grid n F
         go i c hi hc true f false g =
             let p = eqb→eq i j (rw f tt) in
             let o = ap (λ (k : ℕ). cell (put t j d v) k c) p ∙ ap (λ (r : List ℕ). get_or r c 0) row_put
-                ∙ get_or-set_other (get_or t j []) d c v 0 (λ z. T_not (eqb c d) (rw g tt) (rw z (eqb_refl d))) ∙ ap (λ (k : ℕ). cell t k c) (sym p) ∙ w.cells i c hi hc in
+            ∙ get_or-set_other (get_or t j []) d c v 0 (λ z. T_not (eqb c d) (rw g tt) (rw z (eqb_refl d))) ∙ ap (λ (k : ℕ). cell t k c) (sym p) ∙ w.cells i c hi hc in
             omega arith
         go i c hi hc false f b g =
             let o = ap (λ (r : List ℕ). get_or r c 0) (row_other i f) ∙ w.cells i c hi hc in

@@ -38,7 +38,7 @@ module _ (n : ℕ) where
   flat_rows (suc k) f [] l w h = let z : ⊥ = omega arith in absurd z
   flat_rows (suc k) f (r ∷ t) l w h =
       λ i. flat_row n (f 1) r (w 0 (omega arith)) (λ j q. h 0 j (omega arith) q) i
-          ++ flat_rows k (λ i. f (suc i)) t (omega arith) (λ i q. w (suc i) (omega arith)) (λ i j q p. h (suc i) j (omega arith) p) i
+      ++ flat_rows k (λ i. f (suc i)) t (omega arith) (λ i q. w (suc i) (omega arith)) (λ i j q p. h (suc i) j (omega arith) p) i
 
   pub flat_is : (f : ℕ → ℕ → ℕ) (t : List (List ℕ)) → Holds n f t → flat_map (λ x. x) t ≡ table_rows n n f
   flat_is f t h = flat_rows n f t h.square.long h.square.wide h.cells

@@ -1,4 +1,4 @@
 -- The lemmas that a function's proof is tried with, where their names are no Rust names.
-use Rattle.tables.proofs.Adding.{adding_all, adding_none}
+use Rattle.rows.proofs.RowSteps.{named-at, named-less}
 
-pub ruleset for_add = (adding_all, adding_none)
+pub ruleset for_count_pairs = (named-at, named-less)

@@ -12,7 +12,7 @@ use Rattle.queries.specs.inner.Lent.{HasMarks, OfMarks}
 use Rattle.queries.specs.inner.Steps.{PastOf}
 use Rattle.rows.specs.View.{name_at, view, width}
 use Rattle.rows.proofs.Arrays.{sound_below}
-use Rattle.rows.proofs.RowSteps.{named-at, named-less}
+use Rattle.rows.proofs.RowSteps.{named-at}
 use Rattle.tables.proofs.Counting.{counted-more, counted_none, made_few, past_within, small_apart, small_before}
 use Rattle.tables.proofs.count_pairs.Goals as goal
 
@@ -36,13 +36,6 @@ past_is ds ns ss q past p bs s j h =
 pub loop-q-init : goal.loop-q-init
 loop-q-init c = counted_none width _ _ _
 
-pub overflow_sub-d : goal.overflow_sub-d
-overflow_sub-d c = (in-range _ _ _ _ c.requires c.loop-q.q c.loop-q-test.true).0
-
-pub past-requires : goal.past-requires
-past-requires c =
-    ((in-range _ _ _ _ c.requires c.loop-q.q c.loop-q-test.true).2, named-less width _ _ c.loop-q.q c.requires.named (omega arith))
-
 pub add-requires : goal.add-requires
 add-requires c =
     let r = in-range _ _ _ _ c.requires c.loop-q.q c.loop-q-test.true in
@@ -59,9 +52,6 @@ add-requires c =
       before = small_before width _ _ _ _ _ _ c.loop-q.invariant _ i.0 i.1 c.past.result p b s few;
     }
 
-pub bounds-made-d : goal.bounds-made-d
-bounds-made-d c = (index _ _ _ _ c.requires c.loop-q.q c.loop-q-test.true).0
-
 pub overflow_add-made : goal.overflow_add-made
 overflow_add-made c =
     let r = in-range _ _ _ _ c.requires c.loop-q.q c.loop-q-test.true in
@@ -70,9 +60,6 @@ overflow_add-made c =
     let m = made_few width _ _ _ _ _ _ c.loop-q.invariant _ i.0 i.1 c.past.result (past_is _ _ _ _ _ c.past.ensures) c.requires.carried s (omega arith) _ i.0 in
     let z : get_or c.loop-q.made (get_or c.args.desks.now c.loop-q.q 0 - 1) 0 + 1 < 65_536 = omega arith in
     record { fits = z }
-
-pub bounds-made-d-in-loop-q : goal.bounds-made-d-in-loop-q
-bounds-made-d-in-loop-q c = (index _ _ _ _ c.requires c.loop-q.q c.loop-q-test.true).0
 
 pub loop-q-preserved : goal.loop-q-preserved
 loop-q-preserved c =
