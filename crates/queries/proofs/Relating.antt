@@ -5,8 +5,6 @@ use mathlib.Core.Bool.{Bool, ◌&&◌, false, not, true}
 use mathlib.Core.List.{List}
 use mathlib.Core.Path.{◌∙◌, ◌≡◌, ap, refl, subst, sym}
 use native.Mathlib.Omega.{arith}
-use Rattle.std.proofs.Common.{Less, Equal, Greater, nat_cmp}
-use Rattle.std.proofs.lemmas.Cmp.{ranked}
 use Rattle.frame.specs.Answer.{Answer, gives, refuse_if, refused}
 use Rattle.frame.specs.Names.{MarkId}
 use Rattle.causality.specs.Answers.{After, Before, Concurrent, Relation, Same}
@@ -103,25 +101,23 @@ module _ (count : ℕ) (ds ns ss ts ls bf : List ℕ) (l : Lent count ds ns ts l
   at_second : place_at width count q ds ns bs ss ≡ find mark_id b (view width count ds ns bs ss)
   at_second = found-place count ds ns ts ls bf l b q fb bs ss
 
-  pub relate_no_first : places ≤ p → refused 12 ≡ relate (queried_state count ds ns ss own bs waiting) a b
-  relate_no_first h = let f = l.few in sym (no_first width count ds ns bs ss own waiting a b p q at_first at_second (omega arith))
+  pub relate_no_first : places ≤ p → relate (queried_state count ds ns ss own bs waiting) a b ≡ refused 12
+  relate_no_first h = let f = l.few in no_first width count ds ns bs ss own waiting a b p q at_first at_second (omega arith)
 
-  pub relate_no_second : places ≤ q → refused 12 ≡ relate (queried_state count ds ns ss own bs waiting) a b
-  relate_no_second h = let f = l.few in sym (no_second width count ds ns bs ss own waiting a b p q at_first at_second (omega arith))
+  pub relate_no_second : places ≤ q → relate (queried_state count ds ns ss own bs waiting) a b ≡ refused 12
+  relate_no_second h = let f = l.few in no_second width count ds ns bs ss own waiting a b p q at_first at_second (omega arith)
 
   module _ (h : p < places) (k : q < places) where
     inside : (p < count) × (q < count)
     inside = (found_inside count ds ns ts ls bf l a p fa h, found_inside count ds ns ts ls bf l b q fb k)
 
-    pub relate-same : Equal ≡ nat_cmp p q → gives Same ≡ relate (queried_state count ds ns ss own bs waiting) a b
-    relate-same e = sym (same_place width count ds ns bs ss own waiting a b p q at_first at_second inside.0 inside.1 (ranked p q Equal e))
+    pub relate-same : p ≡ q → relate (queried_state count ds ns ss own bs waiting) a b ≡ gives Same
+    relate-same = same_place width count ds ns bs ss own waiting a b p q at_first at_second inside.0 inside.1
 
     -- r says whether the earlier mark precedes the later one, and is u.
     module _ (s : CausallyOrdered (view width count ds ns bs ss)) (r u : Bool) (v : r ≡ u) where
-      pub relate_forward : Less ≡ nat_cmp p q → PrecedesAt ds ns ss p q r
-          → gives (elim u [ true ↦ Before | false ↦ Concurrent ]) ≡ relate (queried_state count ds ns ss own bs waiting) a b
-      relate_forward o e = sym (forward width count ds ns bs ss own waiting a b p q at_first at_second inside.0 inside.1 s (ranked p q Less o) u (sym v ∙ e count bs inside.1 s))
+      pub relate_forward : p < q → PrecedesAt ds ns ss p q r → relate (queried_state count ds ns ss own bs waiting) a b ≡ gives (elim u [ true ↦ Before | false ↦ Concurrent ])
+      relate_forward o e = forward width count ds ns bs ss own waiting a b p q at_first at_second inside.0 inside.1 s o u (sym v ∙ e count bs inside.1 s)
 
-      pub relate_back : Greater ≡ nat_cmp p q → PrecedesAt ds ns ss q p r
-          → gives (elim u [ true ↦ After | false ↦ Concurrent ]) ≡ relate (queried_state count ds ns ss own bs waiting) a b
-      relate_back o e = sym (back width count ds ns bs ss own waiting a b p q at_first at_second inside.0 inside.1 s (ranked p q Greater o) u (sym v ∙ e count bs inside.0 s))
+      pub relate_back : q < p → PrecedesAt ds ns ss q p r → relate (queried_state count ds ns ss own bs waiting) a b ≡ gives (elim u [ true ↦ After | false ↦ Concurrent ])
+      relate_back o e = back width count ds ns bs ss own waiting a b p q at_first at_second inside.0 inside.1 s o u (sym v ∙ e count bs inside.0 s)

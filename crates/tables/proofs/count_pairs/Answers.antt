@@ -1,5 +1,5 @@
 -- `count_pairs` meets its contract: what the check leaves of it.
-use Prim.Native.Nat.{◌+◌, ◌-◌, ◌<◌, ◌≤◌, suc, ℕ}
+use Prim.Native.Nat.{◌-◌, ◌<◌, ◌≤◌, suc, ℕ}
 use lib.ListN.{get_or}
 use mathlib.Core.List.{List}
 use mathlib.Core.Path.{◌∙◌, ◌≡◌, ap, sym}
@@ -58,8 +58,7 @@ overflow_add-made c =
     let i = index _ _ _ _ c.requires c.loop-q.q c.loop-q-test.true in
     let s = sound _ _ _ _ c.requires c.loop-q.q c.loop-q-test.true in
     let m = made_few width _ _ _ _ _ _ c.loop-q.invariant _ i.0 i.1 c.past.result (past_is _ _ _ _ _ c.past.ensures) c.requires.carried s (omega arith) _ i.0 in
-    let z : get_or c.loop-q.made (get_or c.args.desks.now c.loop-q.q 0 - 1) 0 + 1 < 65_536 = omega arith in
-    record { fits = z }
+    record { fits = omega (arith, m) }
 
 pub loop-q-preserved : goal.loop-q-preserved
 loop-q-preserved c =
