@@ -1,17 +1,18 @@
 -- First apart by how many of a desk's marks stand before a place, and how many of these precede the mark there. n: how many desks. Assumes nothing.
-use Prim.Native.Nat.{◌<◌, ◌≤◌, suc, zero, ℕ}
+use Prim.Native.Nat.{◌+◌, ◌<◌, ◌≤◌, suc, zero, ℕ}
 use lib.Dec.{T, ltb, ltb→lt, nltb→le, not_T}
 use mathlib.Core.Bool.{Bool, false, not, true}
 use mathlib.Core.List.{List}
 use mathlib.Core.Logic.{inl, inr}
 use mathlib.Core.Path.{◌∙◌, ◌≡◌, ap, refl, subst, sym}
+use native.Mathlib.Numerals.{add-one}
 use native.Mathlib.Omega.{arith}
 use Rattle.frame.specs.Answer.{gives, refuse_if, refused}
 use Rattle.frame.specs.Names.{MarkId, is_desk}
 use Rattle.causality.specs.Calls.{earlier, first_apart, lowest_number}
 use Rattle.causality.specs.Marks.{find, has, keep, places, same, tally}
 use Rattle.causality.specs.State.{Mark, State, concurrent, ids, mark_id}
-use Rattle.causality.proofs.Apart.{lowest_above}
+use Rattle.causality.proofs.Apart.{above_no, above-yes, lowest_above}
 use Rattle.causality.proofs.Logic.{T→eq, nT→eq, same_refl, same→eq, split}
 use Rattle.causality.specs.inner.Order.{CausallyOrdered}
 use Rattle.causality.proofs.Tail.{first_of_run}
@@ -86,11 +87,18 @@ module _ (count : ℕ) (ds ns ss ts ls bf : List ℕ) (l : Lent count ds ns ts l
   at : place_at width count p ds ns bs ss ≡ find mark_id a (view width count ds ns bs ss)
   at = found-place count ds ns ts ls bf l a p f bs ss
 
-  pub first-none : places ≤ p → first_apart width (queried_state count ds ns ss own bs waiting) a d ≡ refused 12
-  first-none h = let w = l.few in first-not-executed width ds ns bs ss width own count p waiting a at d e (omega arith)
+  pub first-none : places ≤ p → refused 12 ≡ first_apart width (queried_state count ds ns ss own bs waiting) a d
+  first-none h = let w = l.few in sym (first-not-executed width ds ns bs ss width own count p waiting a at d e (omega arith))
 
-  pub first-lowest : p < places → CausallyOrdered (view width count ds ns bs ss) → (R made : ℕ) → MadeBefore ds ns ts ls d p made → FirstRunAt width ds ns ss p d made R
-      → first_apart width (queried_state count ds ns ss own bs waiting) a d ≡ gives (lowest_above R made)
-  first-lowest h s R made m told =
-      let i = found_inside count ds ns ts ls bf l a p f h in
-      first_given width ds ns bs ss width own count p waiting a at d e i s R made (made-first count p d made ds ns ts ls bf l m (omega arith) bs ss) told
+  -- So many of the desk's marks stand before the place, of which the first R precede.
+  module _ (h : p < places) (s : CausallyOrdered (view width count ds ns bs ss)) (R made : ℕ) (m : MadeBefore ds ns ts ls d p made) (told : FirstRunAt width ds ns ss p d made R) where
+    lowest : first_apart width (queried_state count ds ns ss own bs waiting) a d ≡ gives (lowest_above R made)
+    lowest =
+        let i = found_inside count ds ns ts ls bf l a p f h in
+        first_given width ds ns bs ss width own count p waiting a at d e i s R made (made-first count p d made ds ns ts ls bf l m (omega arith) bs ss) told
+
+    pub first_number : R < made → gives (R + 1) ≡ first_apart width (queried_state count ds ns ss own bs waiting) a d
+    first_number x = ap gives (add-one R ∙ sym (above-yes R made x)) ∙ sym lowest
+
+    pub first_no_number : made ≤ R → gives 0 ≡ first_apart width (queried_state count ds ns ss own bs waiting) a d
+    first_no_number x = ap gives (sym (above_no R made x)) ∙ sym lowest

@@ -1,10 +1,11 @@
 -- What a filled run is by names: the names of the list by rising index, then the pairs beyond. Assumes nothing.
-use mathlib.Core.Path.{◌≡◌, refl, ◌∙◌, ap}
-use mathlib.Core.List.{List, [], ◌∷◌, ◌++◌, map, reverse, reverse-cons, append_assoc}
+use mathlib.Core.Path.{◌≡◌, refl, ◌∙◌}
+use mathlib.Core.List.{List, ◌++◌, map, reverse, reverse-cons, append_assoc}
 use Prim.Native.Nat.{ℕ, zero, suc, ◌≤◌, ◌<◌}
 use native.Mathlib.Omega.{arith}
-use lib.ListN.{length, set, drop, length-set, length-map, length-reverse}
+use lib.ListN.{length, drop, length-set, length-map, length-reverse}
 use lib.Seq.{drop-cons, set_at}
+use Rattle.std.proofs.lemmas.List.{map-set}
 use Rattle.frame.specs.Answer.{Answer, gives, refused}
 use Rattle.frame.specs.Frame.{over_if}
 use Rattle.frame.specs.Names.{MarkId}
@@ -19,11 +20,6 @@ use Rattle.rows.proofs.Down.{down-length}
 pub length-filled : (xs : List CodeId) (list : Listed) (k : ℕ) → length (filled xs list k) ≡ length xs
 length-filled xs list zero = refl
 length-filled xs list (suc k) = length-set (filled xs list k) k (pair_at list k) ∙ length-filled xs list k
-
-map-set : {A B : Type 0} (f : A → B) (xs : List A) (i : ℕ) (x : A) → map f (set xs i x) ≡ set (map f xs) i (f x)
-map-set f [] i x = refl
-map-set f (y ∷ ys) zero x = refl
-map-set f (y ∷ ys) (suc i) x = ap (λ (zs : List _). f y ∷ zs) (map-set f ys i x)
 
 -- The first k names by rising index.
 abbrev names_up : ℕ → List ℕ → List ℕ → List MarkId

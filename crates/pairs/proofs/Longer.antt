@@ -8,14 +8,11 @@ use native.Mathlib.Numerals.{add-one}
 use native.Mathlib.Omega.{arith}
 use Rattle.causality.specs.Marks.{places}
 use Rattle.pairs.specs.Pairs.{Spare}
+pub use Rattle.pairs.specs.Pairs.{longer}
 use Rattle.pairs.specs.declared.Listed.{Listed}
 use Rattle.rows.specs.View.{name_at, names_down}
 use Rattle.rows.proofs.Slots.{zero_one}
 use Rattle.rows.proofs.Down.{down_cong}
-
--- A list with a name stored behind its last.
-abbrev pub longer : Listed → ℕ → ℕ → Listed
-longer list d m = record { desks = set list.desks list.count d; numbers = set list.numbers list.count m; count = list.count + 1 }
 
 module _ (list : Listed) (spare : Spare list) (d m : ℕ) where
   pub longer_spare : Spare (longer list d m)

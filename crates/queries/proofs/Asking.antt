@@ -6,7 +6,7 @@ use lib.ListN.{get_or, length, take}
 use mathlib.Core.Bool.{false, or-true, true}
 use mathlib.Core.List.{List}
 use mathlib.Core.Logic.{inl, inr}
-use mathlib.Core.Path.{◌∙◌, ◌≡◌, ap, refl, subst, sym}
+use mathlib.Core.Path.{◌∙◌, ◌≡◌, ap, refl, subst}
 use native.Mathlib.Omega.{arith}
 use Rattle.frame.specs.Names.{MarkId}
 use Rattle.causality.specs.Marks.{has, tally}
@@ -32,11 +32,11 @@ module _ (n : ℕ) (ds ns : List ℕ) (bs : ℕ → Carried) (ss : List ℕ) (i 
   Told = leb i.number (row_fn row i.desk) ≡ leb i.number (reached n ds ns bs ss at row i.desk)
 
   told-counted : i.number ≤ row_fn row i.desk → Told
-  told-counted h = le-leb i.number (row_fn row i.desk) h ∙ sym (reach_now n ds ns bs ss i at row h)
+  told-counted h = le-leb i.number (row_fn row i.desk) h ∙ reach_now n ds ns bs ss i at row h
 
   module _ (h : row_fn row i.desk < i.number) (s : CausallyOrdered (view n at ds ns bs ss)) where
     told_none : has i (ids (view n at ds ns bs ss)) ≡ false → Told
-    told_none out = let p = h in lt-leb i.number (row_fn row i.desk) h ∙ sym (reach_end n ds ns bs ss i at at row h (omega arith) s out (omega arith))
+    told_none out = let p = h in lt-leb i.number (row_fn row i.desk) h ∙ reach_end n ds ns bs ss i at at row h (omega arith) s out (omega arith)
 
   -- Where an ask ends the row tells: a mark that is not among those before the place is reached only if the row counts it.
   pub told_ended : CausallyOrdered (view n at ds ns bs ss) → ends_at ds ns i at (row_fn row i.desk) ≡ true → Told
@@ -52,23 +52,24 @@ module _ (n : ℕ) (ds ns : List ℕ) (bs : ℕ → Carried) (ss : List ℕ) (i 
   ]
 
 module _ (ds ns ss row : List ℕ) (at : ℕ) (i : MarkId) where
-  -- It ends where it begins, by one of two tests: the row stays.
-  module _ (l : length row ≡ width) (made : ℕ) (m : made ≡ tally i.desk (names_down at ds ns)) where
-    asked_end : ends_at ds ns i at (row_fn row i.desk) ≡ true → AskedOf ds ns ss row at i row made at
-    asked_end e = record {
-      less = omega arith;
-      long = l;
-      counts = λ bs j h. pass_ended width ds ns bs ss (λ d. 0) at at row (omega arith) j;
-      standing = m;
-      ends = e;
-      first = λ bs q lo hi. let z : ⊥ = omega arith in absurd z;
-    }
+  module _ (made : ℕ) (m : made ≡ tally i.desk (names_down at ds ns)) where
+    -- It ends where it begins, by one of two tests: the row stays.
+    module _ (l : length row ≡ width) where
+      asked_end : ends_at ds ns i at (row_fn row i.desk) ≡ true → AskedOf ds ns ss row at i row made at
+      asked_end e = record {
+        less = omega arith;
+        long = l;
+        counts = λ bs j h. pass_ended width ds ns bs ss (λ d. 0) at at row (omega arith) j;
+        standing = m;
+        ends = e;
+        first = λ bs q lo hi. let z : ⊥ = omega arith in absurd z;
+      }
 
-    pub asked-counted : i.number ≤ row_fn row i.desk → AskedOf ds ns ss row at i row made at
-    asked-counted h = asked_end (rw (le-leb i.number (row_fn row i.desk) h) refl)
+      pub asked-counted : i.number ≤ row_fn row i.desk → AskedOf ds ns ss row at i row made at
+      asked-counted h = asked_end (rw (le-leb i.number (row_fn row i.desk) h) refl)
 
-    pub asked-passed : made < i.number → AskedOf ds ns ss row at i row made at
-    asked-passed h = asked_end (rw (lt-ltb (tally i.desk (names_down at ds ns)) i.number (omega arith)) (or-true (leb i.number (row_fn row i.desk))))
+      pub asked-passed : made < i.number → AskedOf ds ns ss row at i row made at
+      asked-passed h = asked_end (rw (lt-ltb (tally i.desk (names_down at ds ns)) i.number (omega arith)) (or-true (leb i.number (row_fn row i.desk))))
 
     -- It does not end there, by both: then there is a place before.
     module _ (h : row_fn row i.desk < i.number) (k : i.number ≤ made) where

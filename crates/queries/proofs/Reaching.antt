@@ -28,16 +28,16 @@ module _ (n : ℕ) (ds ns : List ℕ) (bs : ℕ → Carried) (ss : List ℕ) whe
   reached k row d = under (view n k ds ns bs ss) (λ d. 0) (row_fn row) d
 
   -- What the row counts is reached.
-  pub reach_now : (i : MarkId) (k : ℕ) (row : List ℕ) → i.number ≤ row_fn row i.desk → leb i.number (reached k row i.desk) ≡ true
-  reach_now i k row h = let u = under_up (view n k ds ns bs ss) (λ d. 0) (row_fn row) i.desk in le-leb i.number (reached k row i.desk) (omega arith)
+  pub reach_now : (i : MarkId) (k : ℕ) (row : List ℕ) → i.number ≤ row_fn row i.desk → true ≡ leb i.number (reached k row i.desk)
+  reach_now i k row h = let u = under_up (view n k ds ns bs ss) (λ d. 0) (row_fn row) i.desk in sym (le-leb i.number (reached k row i.desk) (omega arith))
 
   -- What it does not count is not reached from places of which none is the mark's.
   pub reach_end : (i : MarkId) (k to : ℕ) (row : List ℕ) → row_fn row i.desk < i.number → k ≤ to
-      → CausallyOrdered (view n k ds ns bs ss) → has i (ids (view n to ds ns bs ss)) ≡ false → 1 ≤ i.number → leb i.number (reached k row i.desk) ≡ false
+      → CausallyOrdered (view n k ds ns bs ss) → has i (ids (view n to ds ns bs ss)) ≡ false → 1 ≤ i.number → false ≡ leb i.number (reached k row i.desk)
   reach_end i k to row l h s out pos =
-      under_out (view n k ds ns bs ss) s (λ d. 0) (row_fn row) i pos
+      sym (under_out (view n k ds ns bs ss) s (λ d. 0) (row_fn row) i pos
       (nT→eq (has i (ids (view n k ds ns bs ss))) (not_T (has i (ids (view n k ds ns bs ss))) (λ t. subst T out (has_more n ds ns bs ss k to h i t))))
-      ∙ lt-leb i.number (row_fn row i.desk) l
+      ∙ lt-leb i.number (row_fn row i.desk) l)
 
   -- The mark at the last place is counted, and its row is joined.
   pub reach_joined : (k : ℕ) (row row' : List ℕ) → 0 < k → Named n k ds → get_or ns (k - 1) 0 ≤ row_fn row (get_or ds (k - 1) 0)

@@ -17,9 +17,10 @@ use Rattle.causality.specs.inner.Order.{CausallyOrdered}
 use Rattle.executed.specs.inner.Rows.{Finds, Lent}
 use Rattle.executed.proofs.Chain.{found_inside, found-place}
 use Rattle.rows.specs.View.{Carried, name_at, view, width}
-use Rattle.rows.specs.inner.Slots.{place_at}
+use Rattle.rows.specs.inner.Slots.{Named, place_at}
+use Rattle.rows.proofs.RowSteps.{named-less}
 use Rattle.rows.proofs.Places.{found_none, found_some, has-at, not_before, precedes_no_earlier}
-use Rattle.queries.specs.inner.Lent.{queried_state}
+use Rattle.queries.specs.inner.Lent.{HasLent, queried_state}
 use Rattle.queries.specs.inner.Steps.{PrecedesAt}
 
 -- The answer by the five tests.
@@ -82,6 +83,12 @@ module _ (n count : ℕ) (ds ns : List ℕ) (bs : ℕ → Carried) (ss : List �
             (precedes_no_earlier n ds ns bs ss count p q s h (omega arith)) (sym e)
 
 -- LENT ARRAYS
+
+-- The marks below the place of one that is found are of desks.
+pub named_found : (ds ns ts ls bf : List ℕ) → HasLent ds ns ts ls bf → (a : MarkId) (p : ℕ) → Finds ts ls bf a p → p < places → Named width p ds
+named_found ds ns ts ls bf h a p f l =
+    let i = found_inside h.count ds ns ts ls bf h.marks a p f l in
+    named-less width h.count ds p h.marks.named (omega arith)
 
 module _ (count : ℕ) (ds ns ss ts ls bf : List ℕ) (l : Lent count ds ns ts ls bf) (own : ℕ) (bs : ℕ → Carried) (waiting : List Mark)
     (a b : MarkId) (p q : ℕ) (fa : Finds ts ls bf a p) (fb : Finds ts ls bf b q) where

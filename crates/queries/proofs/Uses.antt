@@ -1,18 +1,11 @@
 -- The lemmas that a function's proof is tried with, where their names are no Rust names.
 use Rattle.queries.proofs.InPast.{counts_last, counts_met, in_past_reached, in_past_traced}
-use Rattle.queries.proofs.Reaching.{reach_end, reach_joined, reach_passed}
-use Rattle.queries.proofs.Relating.{relate_back, relate_forward, relate_no_first, relate_no_second, relate-same}
+use Rattle.queries.proofs.Reaching.{reach_joined, reach_passed}
 use Rattle.rows.proofs.Arrays.{sound_below}
 use Rattle.rows.proofs.RowSteps.{named-at, named-less, pass_rest}
 
-pub ruleset for_in_past_count = (sound_below, named-at, named-less, counts_last, counts_met, reach_joined, reach_passed)
+pub ruleset for_in_past_count = (named-at, named-less, counts_last, counts_met)
 
-pub ruleset for_in_past_in_past = (sound_below, in_past_reached)
-
-pub ruleset for_past_past = (pass_rest, in_past_traced)
-
-pub ruleset for_relate_follow = (sound_below, named-at, named-less, reach_end, reach_joined, reach_passed)
+pub ruleset for_relate_follow = (sound_below, named-at, named-less, reach_joined, reach_passed)
 
 pub ruleset for_relate_precedes = (named-at)
-
-pub ruleset for_relate_relate = (named-less, relate_back, relate_forward, relate_no_first, relate_no_second, relate-same)

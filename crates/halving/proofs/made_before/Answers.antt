@@ -1,8 +1,6 @@
--- `made_before` meets its contract: what the check leaves of it.
+-- `made_before` meets its contract: the mark that is met has the number that is asked for.
 use Rattle.queries.proofs.MadeBefore.{made_met}
 use Rattle.halving.proofs.made_before.Goals as goal
 
 pub returns-then-desks-q : goal.returns-then-desks-q
-returns-then-desks-q c =
-    let a = c.args in
-    made_met a.desks.now a.numbers.now a.tally.now a.last.now a.desk a.p.0 _ c.loop-q.invariant c.loop-q-test.true c.if-desks-q.true
+returns-then-desks-q c = made_met _ _ c.args.tally.now c.args.last.now _ _ _ c.loop-q.invariant c.loop-q-test.true c.if-desks-q.true

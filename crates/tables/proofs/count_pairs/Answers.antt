@@ -1,10 +1,9 @@
 -- `count_pairs` meets its contract: what the check leaves of it.
-use Prim.Native.Nat.{◌+◌, ◌-◌, ◌<◌, ◌≤◌, suc, ℕ}
+use Prim.Native.Nat.{◌-◌, ◌<◌, ◌≤◌, suc, ℕ}
 use lib.ListN.{get_or}
 use mathlib.Core.List.{List}
 use mathlib.Core.Path.{◌∙◌, ◌≡◌, ap, sym}
 use native.Mathlib.Numerals.{sub-one}
-use borrow.Author.Rules.{rules}
 use native.Mathlib.Omega.{arith}
 use Rattle.causality.specs.Evidence.{in_past}
 use Rattle.causality.specs.Marks.{places}
@@ -14,7 +13,7 @@ use Rattle.queries.specs.inner.Steps.{PastOf}
 use Rattle.rows.specs.View.{name_at, view, width}
 use Rattle.rows.proofs.Arrays.{sound_below}
 use Rattle.rows.proofs.RowSteps.{named-at}
-use Rattle.tables.proofs.Counting.{counted-more, counted_none, made_small, past_within, room_before, room_column, room_row}
+use Rattle.tables.proofs.Counting.{counted-more, counted_none, made_few, past_within, small_apart, small_before}
 use Rattle.tables.proofs.count_pairs.Goals as goal
 
 -- Of the mark at place q: its desk, the desk's index, the marks up to it.
@@ -35,57 +34,33 @@ past_is ds ns ss q past p bs s j h =
     ap (λ (x : ℕ). get_or past x 0) (sym (sub-one (suc j))) ∙ p (suc q) (omega arith) bs s (suc j) (omega arith) (omega arith)
 
 pub loop-q-init : goal.loop-q-init
-loop-q-init c = counted_none width _ _ _ _
-
-pub less-rest-requires : goal.less-rest-requires
-less-rest-requires c =
-    let i = index _ _ _ _ c.requires c.loop-q.q c.loop-q-test.true in
-    let s = sound _ _ _ _ c.requires c.loop-q.q c.loop-q-test.true in
-    past_within width _ _ _ _ _ _ _ _ c.loop-q.invariant _ i.0 i.1 c.past-past.result (past_is _ _ _ _ _ c.past-past.ensures) c.requires.carried s
+loop-q-init c = counted_none width _ _ _
 
 pub add-requires : goal.add-requires
 add-requires c =
     let r = in-range _ _ _ _ c.requires c.loop-q.q c.loop-q-test.true in
     let i = index _ _ _ _ c.requires c.loop-q.q c.loop-q-test.true in
-    let s = sound _ _ _ _ c.requires c.loop-q.q c.loop-q-test.true in (
-      search rules,
-      search rules,
-      room_before width _ _ _ _ _ _ _ _ c.loop-q.invariant _ i.0 i.1 c.past-past.result (past_is _ _ _ _ _ c.past-past.ensures) c.requires.carried s (omega arith),
-    )
-
-pub add-requires-in-loop-q : goal.add-requires-in-loop-q
-add-requires-in-loop-q c =
-    let r = in-range _ _ _ _ c.requires c.loop-q.q c.loop-q-test.true in
-    let i = index _ _ _ _ c.requires c.loop-q.q c.loop-q-test.true in
-    let s = sound _ _ _ _ c.requires c.loop-q.q c.loop-q-test.true in (
-      search rules,
-      search rules,
-      room_column width _ _ _ _ _ _ _ _ c.loop-q.invariant _ i.0 i.1 c.past-past.result (past_is _ _ _ _ _ c.past-past.ensures) c.requires.carried s (omega arith)
-          c.less-rest.result c.less-rest.ensures.counts,
-    )
-
-pub add-requires-in-loop-q-2 : goal.add-requires-in-loop-q-2
-add-requires-in-loop-q-2 c =
-    let r = in-range _ _ _ _ c.requires c.loop-q.q c.loop-q-test.true in
-    let i = index _ _ _ _ c.requires c.loop-q.q c.loop-q-test.true in
-    let s = sound _ _ _ _ c.requires c.loop-q.q c.loop-q-test.true in (
-      search rules,
-      search rules,
-      room_row width _ _ _ _ _ _ _ _ c.loop-q.invariant _ i.0 i.1 c.past-past.result (past_is _ _ _ _ _ c.past-past.ensures) c.requires.carried s (omega arith)
-          c.less-rest.result c.less-rest.ensures.counts _ c.add-in-loop-q.ensures,
-    )
+    let s = sound _ _ _ _ c.requires c.loop-q.q c.loop-q-test.true in
+    let p = past_is _ _ _ _ _ c.past.ensures in
+    let b = c.requires.carried in
+    let few : c.loop-q.q ≤ places = omega arith in
+    record {
+      desk = i.0;
+      past = past_within width _ _ _ _ _ _ c.loop-q.invariant _ i.0 i.1 c.past.result p b s;
+      made = made_few width _ _ _ _ _ _ c.loop-q.invariant _ i.0 i.1 c.past.result p b s few;
+      apart = small_apart width _ _ _ _ _ _ c.loop-q.invariant _ i.0 i.1 c.past.result p b s few;
+      before = small_before width _ _ _ _ _ _ c.loop-q.invariant _ i.0 i.1 c.past.result p b s few;
+    }
 
 pub overflow_add-made : goal.overflow_add-made
 overflow_add-made c =
     let r = in-range _ _ _ _ c.requires c.loop-q.q c.loop-q-test.true in
     let i = index _ _ _ _ c.requires c.loop-q.q c.loop-q-test.true in
     let s = sound _ _ _ _ c.requires c.loop-q.q c.loop-q-test.true in
-    let m = made_small width _ _ _ _ _ _ _ _ c.loop-q.invariant _ i.0 i.1 c.past-past.result (past_is _ _ _ _ _ c.past-past.ensures) c.requires.carried s _ i.0 (omega arith) in
-    let z : get_or c.loop-q.made (get_or c.args.desks.now c.loop-q.q 0 - 1) 0 + 1 < 65_536 = omega arith in
-    record { fits = z }
+    let m = made_few width _ _ _ _ _ _ c.loop-q.invariant _ i.0 i.1 c.past.result (past_is _ _ _ _ _ c.past.ensures) c.requires.carried s (omega arith) _ i.0 in
+    record { fits = omega (arith, m) }
 
 pub loop-q-preserved : goal.loop-q-preserved
 loop-q-preserved c =
     let i = index _ _ _ _ c.requires c.loop-q.q c.loop-q-test.true in
-    counted-more width _ _ _ _ _ _ _ _ c.loop-q.invariant _ i.0 i.1 c.past-past.result (past_is _ _ _ _ _ c.past-past.ensures) c.less-rest.result _ _ _ c.less-rest.ensures.counts
-    c.add.ensures c.add-in-loop-q.ensures c.add-in-loop-q-2.ensures c.loop-q-test.true
+    counted-more width _ _ _ _ _ _ c.loop-q.invariant _ i.0 i.1 c.past.result (past_is _ _ _ _ _ c.past.ensures) _ c.add.ensures

@@ -9,6 +9,6 @@ use Rattle.queries.proofs.in_past.in_past.Goals as goal
 
 pub returns : goal.returns
 returns c count h bs sound =
-    let a = c.args in
-    c.count.ensures bs (sound_below width count a.desks.now a.numbers.now bs a.stamps.now sound a.p.0 (omega arith))
-    ∙ ap (min a.most) (in_past_reached width a.desks.now a.numbers.now bs a.stamps.now count a.p.0 h c.requires.1 sound c.row_at-row.result c.row_at-row.ensures a.desk c.requires.2 c.requires.3)
+    let h₁ = c.requires in
+    c.count.ensures bs (sound_below width count _ _ bs _ sound _ (omega arith))
+    ∙ ap (min c.args.most) (in_past_reached width _ _ bs _ count _ h h₁.1 sound c.row_at-row.result c.row_at-row.ensures _ h₁.2 h₁.3)

@@ -12,6 +12,6 @@ unfolding view
 returns c count h bs sound d lo hi =
     let a = c.args in
     let row = c.trace.new.below in
-    in_past_traced width a.desks.now a.numbers.now bs a.stamps.now count a.p.0 h c.requires.1 sound c.row_at-row.result c.row_at-row.ensures d lo hi row
+    in_past_traced width _ _ bs _ count _ h c.requires.1 sound c.row_at-row.result c.row_at-row.ensures d lo hi row
     (pass_rest width a.desks.now a.numbers.now bs a.stamps.now (row_fn (replicate width 0)) a.p.0 0 (omega arith)
     c.requires.1 c.row_at-row.result row (c.trace.ensures.counts bs) d lo hi)
