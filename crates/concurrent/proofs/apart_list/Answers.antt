@@ -13,11 +13,11 @@ apart-list-requires c =
     let m = c.requires in
     (m.few, found_inside _ _ _ _ _ _ m _ _ c.find-p.ensures c.if-p-ge-PLACES.false, m.named)
 
-pub returns-then-room-found : goal.returns-then-room-found
-returns-then-room-found c own bs waiting l sound =
-    let r = c.refused-then-room-found.ensures in
-    apart_too_short _ _ _ _ _ _ _ l own bs waiting _ _ c.find-p.ensures _ c.if-p-ge-PLACES.false sound c.apart-list.result c.apart-list.ensures c.if-room-found.true c.refused-then-room-found.result r.0 r.1 r.2
+pub returns-then-room-list : goal.returns-then-room-list
+returns-then-room-list c own bs waiting l sound =
+    let r = c.refused-then-room-list.ensures in
+    apart_too_short _ _ _ _ _ _ _ l own bs waiting _ _ c.find-p.ensures _ c.if-p-ge-PLACES.false sound c.apart-list.result c.apart-list.ensures c.if-room-list.true c.refused-then-room-list.result r.0 r.1 r.2
 
 pub returns : goal.returns
 returns c own bs waiting l sound =
-    apart-all-listed _ _ _ _ _ _ _ l own bs waiting _ _ c.find-p.ensures _ c.if-p-ge-PLACES.false sound c.apart-list.result c.apart-list.ensures c.if-room-found.false
+    apart-all-listed _ _ _ _ _ _ _ l own bs waiting _ _ c.find-p.ensures _ c.if-p-ge-PLACES.false sound c.apart-list.result c.apart-list.ensures c.if-room-list.false
