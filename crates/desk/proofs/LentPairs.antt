@@ -1,7 +1,7 @@
 -- Apart and Evidence: what the list of each leaves in the lent pairs. Assumes nothing.
 use lib.ListN.{length, length-map}
 use mathlib.Core.List.{List, map}
-use mathlib.Core.Path.{◌≡◌, ap, ◌∙◌}
+use mathlib.Core.Path.{◌≡◌}
 use Prim.Native.Nat.{ℕ, ◌≤◌}
 use Rattle.frame.specs.Answer.{Answer}
 use Rattle.frame.specs.Frame.{over_if}
@@ -9,7 +9,7 @@ use Rattle.frame.specs.Names.{MarkId as Name}
 use Rattle.frame.specs.declared.MarkId.{MarkId}
 use Rattle.causality.specs.Calls.{apart_count, apart_of, apart_pairs}
 use Rattle.causality.specs.Evidence.{evidence, evidence_chain, evidence_pairs}
-use Rattle.causality.specs.Meaning.{counting, id_of, proving}
+use Rattle.causality.specs.Meaning.{id_of}
 use Rattle.pairs.proofs.Filled.{filled_over}
 use Rattle.pairs.specs.Pairs.{ListsIf}
 use Rattle.pairs.specs.inner.Filled.{filled}
@@ -20,8 +20,6 @@ use Rattle.evidence.specs.Found.{EvidenceFound}
 use Rattle.evidence.specs.declared.EvidenceList.{EvidenceList}
 use Rattle.desk.specs.Promises.{ApartPromise, EvidencePromise}
 use Rattle.desk.specs.StateOf.{state_of}
-use Rattle.desk.specs.declared.CountedDesk.{CountedDesk}
-use Rattle.desk.specs.declared.EvidenceDesk.{EvidenceDesk}
 use Rattle.desk.specs.declared.Desk.{Desk}
 
 -- Of an answer that depends on how many pairs are lent: these names over them, or nothing.
@@ -29,28 +27,21 @@ left_over : {A : Type 0} (answer : ℕ → Answer A) (names : List Name) (out af
     → after ≡ filled out list list.count → ListsIf (answer (length out)) names list → list.count ≤ length out → map id_of after ≡ over_if (answer (length (map id_of out))) names (map id_of out)
 left_over answer names out after list e marks few = rw (e, length-map) (filled_over out list (answer (length out)) names marks few)
 
--- What with_count gives.
-abbrev pub counted_by : Desk → ApartList → CountedDesk
-counted_by d found = record { desk = d; answer = found.answer }
-
-pub lent_pairs : (d : Desk) (a : MarkId) (out after : List MarkId) (found : ApartList) (r : CountedDesk)
-    → ApartFound (state_of d) (id_of a) (length out) found → after ≡ filled out found.list found.list.count → r ≡ counted_by d found → ApartPromise d a out after r
+-- With a desk that is the one given.
+pub lent_pairs : (d : Desk) (a : MarkId) (out after : List MarkId) (e : Desk) (found : ApartList)
+    → e ≡ d → ApartFound (state_of d) (id_of a) (length out) found → after ≡ filled out found.list found.list.count → ApartPromise d a out after (record { desk = e; answer = found.answer })
 unfolding apart_pairs
-lent_pairs d a out after found r p e h = record {
-  desk = ap (λ (r : CountedDesk). r.desk) h;
-  answer = ap (λ (r : CountedDesk). counting r.answer) h ∙ p.answer;
-  pairs = left_over (apart_count (state_of d) (id_of a)) (apart_of (state_of d) (id_of a)) out after found.list e p.marks p.few;
+lent_pairs d a out after e found same p filled-by = record {
+  desk = same;
+  answer = p.answer;
+  pairs = left_over (apart_count (state_of d) (id_of a)) (apart_of (state_of d) (id_of a)) out after found.list filled-by p.marks p.few;
 }
 
--- What with_evidence gives.
-abbrev pub proved_by : Desk → EvidenceList → EvidenceDesk
-proved_by d found = record { desk = d; answer = found.answer }
-
-pub lent-chain : (d : Desk) (a b : MarkId) (out after : List MarkId) (found : EvidenceList) (r : EvidenceDesk)
-    → EvidenceFound (state_of d) (id_of a) (id_of b) (length out) found → after ≡ filled out found.list found.list.count → r ≡ proved_by d found → EvidencePromise d a b out after r
+pub lent-chain : (d : Desk) (a b : MarkId) (out after : List MarkId) (e : Desk) (found : EvidenceList)
+    → e ≡ d → EvidenceFound (state_of d) (id_of a) (id_of b) (length out) found → after ≡ filled out found.list found.list.count → EvidencePromise d a b out after (record { desk = e; answer = found.answer })
 unfolding evidence_pairs
-lent-chain d a b out after found r p e h = record {
-  desk = ap (λ (r : EvidenceDesk). r.desk) h;
-  answer = ap (λ (r : EvidenceDesk). proving r.answer) h ∙ p.answer;
-  pairs = left_over (evidence (state_of d) (id_of a) (id_of b)) (evidence_chain (state_of d) (id_of a) (id_of b)) out after found.list e p.marks p.few;
+lent-chain d a b out after e found same p filled-by = record {
+  desk = same;
+  answer = p.answer;
+  pairs = left_over (evidence (state_of d) (id_of a) (id_of b)) (evidence_chain (state_of d) (id_of a) (id_of b)) out after found.list filled-by p.marks p.few;
 }

@@ -2,14 +2,6 @@
 use Rattle.desk.proofs.Invariant.{kept-lent, kept-marks, kept_sound}
 use Rattle.rows.proofs.Slots.{slots-none, zero-all}
 
-pub ruleset for_desk_apart_list = (kept-lent, kept_sound)
-
-pub ruleset for_desk_evidence_list = (kept-lent, kept_sound)
-
-pub ruleset for_desk_find_apart = (kept-lent, kept_sound)
-
-pub ruleset for_desk_find_evidence = (kept-lent, kept_sound)
-
 pub ruleset for_desk_first_apart = (kept-lent, kept_sound)
 
 pub ruleset for_desk_pair_tables = (kept-marks, kept_sound)
