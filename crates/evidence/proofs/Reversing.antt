@@ -1,6 +1,6 @@
 -- A list of names in the other order. Assumes nothing.
 use Prim.Native.Nat.{◌-◌, ◌<◌, ◌≤◌, suc, zero, ℕ}
-use lib.ListN.{drop, get_or, length, length-drop, length-reverse, length-take, take}
+use lib.ListN.{drop, get_or, length, length-reverse, length-take, take}
 use mathlib.Core.List.{List, [], ◌++◌, ◌∷◌, reverse, reverse-cons}
 use mathlib.Core.Path.{◌∙◌, ◌≡◌, ap, refl, sym}
 use native.Mathlib.Omega.{arith}
@@ -8,7 +8,7 @@ use Rattle.frame.specs.Names.{MarkId}
 use Rattle.std.proofs.lemmas.Grind.{common_steps}
 use Rattle.std.proofs.lemmas.List.{get_or-append_right, get_or-drop, get_or-reverse, get_or-take, get_or_append_left}
 use Rattle.causality.specs.Marks.{places}
-use Rattle.rows.specs.View.{ZeroFrom, down_from, name_at, names_down}
+use Rattle.rows.specs.View.{ZeroFrom, down_from, name_at}
 use Rattle.pairs.specs.Pairs.{Spare}
 use Rattle.pairs.specs.declared.Listed.{Listed}
 use Rattle.evidence.specs.inner.Steps.{Reversed}

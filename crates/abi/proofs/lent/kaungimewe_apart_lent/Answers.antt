@@ -1,5 +1,4 @@
 -- What is found is of some desk, so it fits; what is left is what every desk that lends these arrays is promised.
-use Rattle.std.proofs.Common.{rules}
 use Rattle.desk.proofs.Invariant.{kept-lent}
 use Rattle.abi.proofs.LentApart.{found_in, lent_export}
 use Rattle.abi.proofs.lent.kaungimewe_apart_lent.Goals as goal

@@ -1,6 +1,5 @@
 -- `evidence_list` meets its contract: the query over the desk's arrays answers for the desk's state.
-use mathlib.Core.Path.{refl}
-use Rattle.desk.specs.StateOf.{state_of}
+use Rattle.std.proofs.Common.{rules}
 use Rattle.desk.proofs.Invariant.{kept-lent, kept_sound}
 use Rattle.desk.proofs.Desk.evidence_list.Goals as goal
 
@@ -8,6 +7,4 @@ pub evidence_list-found-requires : goal.evidence_list-found-requires
 evidence_list-found-requires c = record { count = _; marks = kept-lent c.args.self c.requires }
 
 pub returns : goal.returns
-returns c =
-    let d = c.args.self in
-    record { desk = refl; found = c.evidence_list-found.ensures _ d.own _ (state_of d).waiting (kept-lent d c.requires) (kept_sound d c.requires) }
+returns c = search (rules, c.evidence_list-found.ensures, kept-lent, kept_sound)
