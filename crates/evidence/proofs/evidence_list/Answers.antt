@@ -63,7 +63,7 @@ returns-then-room-list c count own bs waiting l sound =
     let y = subst (FollowsAt _ _ _ _ _) c.if-not-reaches.false (told at.After-reaches (within at.After-max-to).0) in
     let r = c.alone-then-room-list.ensures in
     evidence_too_short _ _ _ _ _ _ _ l own bs waiting _ _ _ _ c.find-p.ensures c.find-q.ensures _ c.if-p-ge-PLACES.false c.if-q-ge-PLACES.false sound _ _ c.min-from.ensures c.max-to.ensures y
-    _ c.going_back-list.ensures c.if-room-list.true c.alone-then-room-list.result r.0 r.1 r.2
+    _ c.going_back.ensures c.if-room-list.true c.alone-then-room-list.result r.0 r.1 r.2
 
 pub returns : goal.returns
 returns c count own bs waiting l sound =
@@ -71,4 +71,4 @@ returns c count own bs waiting l sound =
     let y = subst (FollowsAt _ _ _ _ _) c.if-not-reaches.false (told at.After-reaches (within at.After-max-to).0) in
     let r = c.shown.ensures in
     evidence-shown _ _ _ _ _ _ _ l own bs waiting _ _ _ _ c.find-p.ensures c.find-q.ensures _ c.if-p-ge-PLACES.false c.if-q-ge-PLACES.false sound _ _ c.min-from.ensures c.max-to.ensures y
-    _ c.going_back-list.ensures c.if-room-list.false c.shown.result (r.0 ∙ c.verdict.ensures) r.1
+    _ c.going_back.ensures c.if-room-list.false c.shown.result (r.0 ∙ c.verdict.ensures) r.1
