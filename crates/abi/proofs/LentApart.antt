@@ -17,7 +17,7 @@ use Rattle.desk.specs.Lent.{apart_lent, desk_of}
 use Rattle.desk.specs.StateOf.{Kept, state_of}
 use Rattle.desk.specs.declared.Desk.{Desk}
 use Rattle.desk.proofs.Invariant.{kept-lent, kept_sound}
-use Rattle.desk.proofs.LentPairs.{counted_by, lent_pairs}
+use Rattle.desk.proofs.LentPairs.{lent_pairs}
 use Rattle.numbers.specs.Numbers.{counted_numbers}
 use Rattle.numbers.specs.declared.ApartNumbers.{ApartNumbers}
 use Rattle.abi.specs.Exports.{ApartExport}
@@ -27,7 +27,7 @@ abbrev pub still : Bor (List ℕ) → Lending (List ℕ)
 still x = record { entry = x; exit = x }
 
 module _ (count : ℕ) (ds ns ss ts ls bf : Bor (List ℕ)) (m : MarkId) where
-  -- What find_apart ensures.
+  -- What the query ensures.
   abbrev pub Finds : ℕ → ApartList → Type 0
   Finds room found = OfCount count (still ds) (still ns) (still ss) (still ts) (still ls) (still bf) (λ st. ApartFound st (id_of m) room found)
 
@@ -42,5 +42,5 @@ module _ (count : ℕ) (ds ns ss ts ls bf : Bor (List ℕ)) (m : MarkId) where
   lent_export out after found r e says h = record {
     answer = found.answer;
     numbers = h;
-    promise = λ own rest q k. lent_pairs (desk_by own rest q) m out after found (counted_by (desk_by own rest q) found) (found_in (length out) found e own rest q k) says refl;
+    promise = λ own rest q k. let d = desk_by own rest q in lent_pairs d m out after d found refl (found_in (length out) found e own rest q k) says;
   }

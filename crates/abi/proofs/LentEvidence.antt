@@ -16,7 +16,7 @@ use Rattle.desk.specs.Lent.{desk_of, query_lent}
 use Rattle.desk.specs.StateOf.{Kept, state_of}
 use Rattle.desk.specs.declared.Desk.{Desk}
 use Rattle.desk.proofs.Invariant.{kept-lent, kept_sound}
-use Rattle.desk.proofs.LentPairs.{lent-chain, proved_by}
+use Rattle.desk.proofs.LentPairs.{lent-chain}
 use Rattle.numbers.specs.Numbers.{evidence_numbers}
 use Rattle.numbers.specs.declared.EvidenceNumbers.{EvidenceNumbers}
 use Rattle.abi.specs.Exports.{EvidenceExport}
@@ -31,7 +31,7 @@ module _ (ds ns ss ts ls bf : Bor (List ℕ)) where
   desk_by own rest q = desk_of own (query_lent ds ns ss ts ls bf rest) q
 
   module _ (a b : MarkId) where
-    -- What find_evidence ensures.
+    -- What the query ensures.
     abbrev pub Finds : ℕ → EvidenceList → Type 0
     Finds room found = OfEach (still ds) (still ns) (still ss) (still ts) (still ls) (still bf) (λ st. EvidenceFound st (id_of a) (id_of b) room found)
 
@@ -43,5 +43,5 @@ module _ (ds ns ss ts ls bf : Bor (List ℕ)) where
     lent_export out after found r e says h = record {
       answer = found.answer;
       numbers = h;
-      promise = λ own rest q k. let d = desk_by own rest q in lent-chain d a b out after found (proved_by d found) (found_in (length out) found e own rest q k) says refl;
+      promise = λ own rest q k. let d = desk_by own rest q in lent-chain d a b out after d found refl (found_in (length out) found e own rest q k) says;
     }

@@ -70,10 +70,10 @@ module _ (n : ℕ) (ds ns ss : List ℕ) (count : ℕ) (first past : List ℕ) w
 
   module _ (q : ℕ) (list : Listed) (v : ApartTo q list) (l : q < count) where
     -- Is the mark the given one, or does it follow it? Is it not of its past?
-    abbrev follows : Bool
+    abbrev pub follows : Bool
     follows = ltb 0 (row_fn first (get_or ds q 0)) && leb (row_fn first (get_or ds q 0)) (get_or ns q 0)
 
-    abbrev above : Bool
+    abbrev pub above : Bool
     above = ltb (row_fn past (get_or ds q 0)) (get_or ns q 0)
 
     apart-is : (p : ℕ) → Both p → (bs : ℕ → Carried) → CausallyOrdered (view n count ds ns bs ss) → concurrent (view n count ds ns bs ss) (name_at ds ns p) (name_at ds ns q) ≡ (not follows && above)
@@ -107,10 +107,10 @@ module _ (n : ℕ) (ds ns ss : List ℕ) (count : ℕ) (first past : List ℕ) w
       names = λ p w bs s. v.names p w bs s ∙ sym (step-names false e p w bs s);
     }
 
-    pub turn-follows : (ltb 0 (row_fn first (get_or ds q 0)) && leb (row_fn first (get_or ds q 0)) (get_or ns q 0)) ≡ true → ApartTo (q + 1) list
+    pub turn-follows : follows ≡ true → ApartTo (q + 1) list
     turn-follows e = passed_by (ap (λ (b : Bool). not b && above) e)
 
-    module _ (t : (ltb 0 (row_fn first (get_or ds q 0)) && leb (row_fn first (get_or ds q 0)) (get_or ns q 0)) ≡ false) where
+    module _ (t : follows ≡ false) where
       pub turn-past : get_or ns q 0 ≤ row_fn past (get_or ds q 0) → ApartTo (q + 1) list
       turn-past u = passed_by (let x = le-ltb (row_fn past (get_or ds q 0)) (get_or ns q 0) u in λ i. not (t i) && x i)
 

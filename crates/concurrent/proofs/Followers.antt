@@ -13,7 +13,6 @@ use Rattle.frame.specs.Names.{MarkId}
 use Rattle.causality.specs.Marks.{same}
 use Rattle.causality.specs.State.{Mark, precedes}
 use Rattle.causality.proofs.Apart.{follower_new, followers, noted, reached_by-row, reached_by}
-use Rattle.causality.specs.inner.Upto.{some_reached}
 use Rattle.causality.proofs.Upto.{any_to_cong}
 use Rattle.causality.specs.inner.Order.{CausallyOrdered}
 use Rattle.rows.specs.View.{Carried, mark_at, row_at, view}
@@ -21,6 +20,7 @@ use Rattle.rows.specs.inner.Slots.{row_fn}
 use Rattle.rows.proofs.Arrays.{sound_below}
 use Rattle.rows.proofs.Places.{precedes_no_earlier, precedes_there}
 use Rattle.rows.proofs.Slots.{zeros}
+use Rattle.concurrent.specs.inner.Steps.{is_or_names}
 use Rattle.concurrent.proofs.ByPlaces.{same_place}
 use Rattle.concurrent.proofs.OwnDesk.{own_follows}
 
@@ -61,7 +61,7 @@ module _ (n : ℕ) (ds ns ss : List ℕ) (count p : ℕ) where
   module _ (q : ℕ) (first : List ℕ) (w : Noted q first) (h : p < count) (l : q < count) where
     -- Is the mark the given one, or does its stamp name a follower?
     abbrev pub names : Bool
-    names = eqb p q || some_reached n (row_fn first) (row_at n ss q)
+    names = is_or_names n first ss p q
 
     module _ (bs : ℕ → Carried) (s : CausallyOrdered (view n count ds ns bs ss)) where
       abbrev m : Mark

@@ -1,25 +1,24 @@
 -- The row of first followers, noted from the mark's own place on. n: how many desks. Assumes nothing.
 use Prim.Native.Nat.{◌+◌, ◌-◌, ◌<◌, ◌≤◌, suc, zero, ℕ}
-use lib.Dec.{eqb, leb, ltb, ltb→lt}
+use lib.Dec.{leb, ltb, ltb→lt}
 use lib.ListN.{get_or, length, replicate, set}
-use mathlib.Core.Bool.{◌&&◌, ◌||◌, false, true}
+use mathlib.Core.Bool.{◌&&◌, false, true}
 use mathlib.Core.List.{List}
 use mathlib.Core.Path.{◌∙◌, ◌≡◌, ap, refl, subst, sym}
 use native.Mathlib.Numerals.{add-one, sub-one}
 use native.Mathlib.Omega.{arith}
 use Rattle.frame.specs.Names.{MarkId}
 use Rattle.causality.proofs.Apart.{follower_row}
-use Rattle.causality.specs.inner.Upto.{some_reached}
 use Rattle.causality.specs.inner.Order.{CausallyOrdered}
 use Rattle.predecessors.proofs.OldestLaws.{names-one-more, names_in, one}
-use Rattle.rows.specs.View.{Carried, name_at, row_at, view}
+use Rattle.rows.specs.View.{Carried, name_at, view}
 use Rattle.rows.specs.inner.Slots.{Named, row_fn}
 use Rattle.rows.proofs.Arrays.{follows_below, sound_below}
 use Rattle.rows.proofs.Places.{ids-names, name-place}
 use Rattle.rows.proofs.RowSteps.{named-at}
 use Rattle.rows.proofs.Slots.{zeros}
 use Rattle.concurrent.proofs.Followers.{Noted, none_before, note_behind, note_new, note_none, noted-none}
-use Rattle.concurrent.specs.inner.Steps.{Tells, is_or_follows}
+use Rattle.concurrent.specs.inner.Steps.{Tells, is_or_follows, is_or_names}
 use Rattle.concurrent.proofs.ByPlaces.{follows_there}
 use Rattle.causality.proofs.Upto.{count-all, sum_zero}
 
@@ -70,7 +69,7 @@ module _ (n : ℕ) (ds ns ss : List ℕ) (p q : ℕ) where
       hi = (named-at n q ds r named l).1
 
       -- The mark is the first follower of its desk; of a desk that has one; none.
-      pub noting_new : get_or first (get_or ds r 0 - 1) 0 ≡ 0 → (eqb p r || some_reached n (row_fn first) (row_at n ss r)) ≡ true
+      pub noting_new : get_or first (get_or ds r 0 - 1) 0 ≡ 0 → is_or_names n first ss p r ≡ true
           → NotedTo (r + 1) (set first (get_or ds r 0 - 1) (get_or ns r 0)) (found + 1)
       noting_new z e =
           let f = w.from in
@@ -97,7 +96,7 @@ module _ (n : ℕ) (ds ns ss : List ℕ) (p q : ℕ) where
           let g = w.few in
           record { from = omega arith; to = omega arith; few = omega arith; long = w.long; noted = λ count j k. note_behind n ds ns ss count p r first (w.noted count j k) (omega arith) (omega arith) lo hi z; desks = w.desks }
 
-      pub noting_none : (eqb p r || some_reached n (row_fn first) (row_at n ss r)) ≡ false → NotedTo (r + 1) first found
+      pub noting_none : is_or_names n first ss p r ≡ false → NotedTo (r + 1) first found
       noting_none e =
           let f = w.from in
           let g = w.few in

@@ -5,11 +5,14 @@ use lib.ListN.{get_or}
 use mathlib.Core.Bool.{Bool, ◌&&◌, ◌||◌, false, true}
 use mathlib.Core.List.{List, [], ◌∷◌}
 use mathlib.Core.Logic.{inl, inr}
-use mathlib.Core.Option.{Option, none, some}
+use mathlib.Core.Option.{none, some}
+use mathlib.Core.Option as Logic
 use mathlib.Core.Path.{◌∙◌, ◌≡◌, ap, refl, subst, sym}
-use native.Mathlib.Numerals.{sub-one}
+use native.Mathlib.Numerals.{add-one, sub-one}
 use native.Mathlib.Omega.{arith}
+use Rattle.std.proofs.Common.{Option, Some, None}
 use Rattle.frame.specs.Names.{MarkId}
+use Rattle.causality.specs.declared.Place.{Place}
 use Rattle.causality.specs.Evidence.{entry_towards, going_back}
 use Rattle.causality.specs.Marks.{has, same}
 use Rattle.causality.specs.State.{Mark, precedes}
@@ -26,7 +29,7 @@ use Rattle.rows.proofs.Arrays.{follows_below, sound_below}
 use Rattle.rows.proofs.Places.{has-at, ids-names, not_before, precedes_no_earlier, precedes_there, name-place}
 use Rattle.concurrent.specs.inner.Steps.{Tells, is_or_follows}
 use Rattle.concurrent.proofs.ByPlaces.{follows_there}
-use Rattle.evidence.specs.inner.Steps.{LowestReached, PlaceBelow, reached_at}
+use Rattle.evidence.specs.inner.Steps.{LowestAt, PlaceBelow, SteppedBack, reached_at}
 use Rattle.evidence.proofs.LowestEntry.{lowest-at, lowest-none}
 
 module _ (n : ℕ) (ds ns : List ℕ) (bs : ℕ → Carried) (ss : List ℕ) where
@@ -47,7 +50,7 @@ module _ (n : ℕ) (ds ns : List ℕ) (bs : ℕ → Carried) (ss : List ℕ) whe
   ]
 
   -- From the newest mark it takes the entry towards a.
-  back_new : (p : ℕ) (a : MarkId) (o : Option MarkId) → entry_towards (view n p ds ns bs ss) a (entries_of_row n (row_at n ss p)) ≡ o
+  back_new : (p : ℕ) (a : MarkId) (o : Logic.Option MarkId) → entry_towards (view n p ds ns bs ss) a (entries_of_row n (row_at n ss p)) ≡ o
       → going_back (view n (suc p) ds ns bs ss) a (name p) ≡ name p ∷ elim o [ none ↦ [] | some e ↦ going_back (view n p ds ns bs ss) a e ]
   unfolding view
   back_new p a o e = rw (T→eq (same (name p) (name p)) (same_refl (name p)), going_back, e)
@@ -85,7 +88,7 @@ module _ (n : ℕ) (ds ns : List ℕ) (bs : ℕ → Carried) (ss : List ℕ) whe
           ap (is_or_follows (l at) (name p)) (sym x.2) ∙ follows_there n ds ns bs ss count s at x.0 (omega arith) x.1 (name p) ∙ ap (is_or_follows (l count) (name p)) x.2
           ∙ w.tells count hc (omega arith) bs s e (rw (← ids-names n ds ns bs ss q, ← x.2) (has-at n ds ns bs ss q x.0 (omega arith)))
 
-    module _ (p q at : ℕ) (first : List ℕ) (hp : p < at) (ha : at < q) (hq : q ≤ count) (w : Tells n ds ns ss p q first) (j : ℕ) (low : LowestReached n first ss at j)
+    module _ (p q at : ℕ) (first : List ℕ) (hp : p < at) (ha : at < q) (hq : q ≤ count) (w : Tells n ds ns ss p q first)
         (t : T (is_or_follows (view n count ds ns bs ss) (name p) (name at))) where
       abbrev row : ℕ → ℕ
       row = row_at n ss at
@@ -107,55 +110,72 @@ module _ (n : ℕ) (ds ns : List ℕ) (bs : ℕ → Carried) (ss : List ℕ) whe
             (rw (← precedes-at (mark_at n ds ns bs ss at) (l at) (name p) (name at) (same_refl (name at)), ← precedes_there n ds ns bs ss count at s (omega arith) (name p)) u)
       ]
 
-      pub reached : j < n
-      reached = elim (split (ltb j n)) [
-        | inl u ↦ ltb→lt j n u
-        | inr u ↦
-            let x = passing in
-            let v = nltb→le j n u in
-            let z = shown row 1 n x.0 x.1 in
-            let lo = z.low in
-            let hi = z.high in
-            let pos = z.pos in
-            let value = z.value in
-            let e : x.0 ≡ record { desk = x.0.desk; number = row x.0.desk } = λ i. record { desk = x.0.desk; number = value i } in
-            absurd (rw (e, test_is x.0.desk lo (omega arith) (omega arith), low.lowest (x.0.desk - 1) (omega arith)) at x.2)
-      ]
-
-      there : (0 < row (suc j)) × (reached_at n first ss at (suc j - 1) ≡ true)
-      there =
-          let y = low.there reached in
-          let f = get_or first j 0 in
-          let g = get_or ss (at * n + j) 0 in
-          let u : T (ltb 0 f && leb f g) = rw y tt in
-          let b = ltb→lt 0 f (and_yes (ltb 0 f) (leb f g) u).0 in
-          let c = leb→le f g (and_yes (ltb 0 f) (leb f g) u).1 in
-          let z : 0 < g = omega arith in
-          let e : j ≡ suc j - 1 = sym (sub-one (suc j)) in
-          (subst (λ (k : ℕ). 0 < get_or ss (at * n + k) 0) e z, subst (λ (k : ℕ). reached_at n first ss at k ≡ true) e y)
+      pub reached : ((j : ℕ) → j < n → reached_at n first ss at j ≡ false) → ⊥
+      reached never =
+          let x = passing in
+          let z = shown row 1 n x.0 x.1 in
+          let lo = z.low in
+          let hi = z.high in
+          let pos = z.pos in
+          let value = z.value in
+          let e : x.0 ≡ record { desk = x.0.desk; number = row x.0.desk } = λ i. record { desk = x.0.desk; number = value i } in
+          rw (e, test_is x.0.desk lo (omega arith) (omega arith), never (x.0.desk - 1) (omega arith)) at x.2
 
       -- The entry at the lowest index is the one that the chain takes.
-      abbrev taken : MarkId
-      taken = record { desk = suc j; number = row (suc j) }
+      module _ (j : ℕ) (low : LowestAt n first ss at j) where
+        abbrev taken : MarkId
+        taken = record { desk = suc j; number = row (suc j) }
 
-      entry : entry_towards (view n at ds ns bs ss) (name p) (entries_of_row n row) ≡ some taken
-      entry = lowest-at test row n 1 (suc j) (omega arith) (omega (arith, reached)) there.0 (test_is (suc j) (omega arith) (omega (arith, reached)) there.0 ∙ there.1)
-          (λ i lo less pos. test_is i lo (omega (arith, reached)) pos ∙ low.lowest (i - 1) (omega arith))
+        within : suc j < 1 + n
+        within = let h = low.within in omega arith
 
-      module _ (r : ℕ) (b : PlaceBelow ds ns at (record { desk = suc j; number = get_or ss (at * n + j) 0 }) r) where
-        found : name r ≡ taken
-        found =
-            let x = entry_place at (omega arith) taken (show row 1 n taken (record { low = omega arith; high = omega (arith, reached); value = refl; pos = there.0 })) in
-            let k : j ≡ suc j - 1 = sym (sub-one (suc j)) in
-            let e : record { desk = suc j; number = get_or ss (at * n + j) 0 } ≡ taken = λ i. record { desk = suc j; number = get_or ss (at * n + k i) 0 } in
-            b.found x.0 x.1 (x.2 ∙ sym e) ∙ e
+        there : (0 < row (suc j)) × (reached_at n first ss at (suc j - 1) ≡ true)
+        there =
+            let f = get_or first j 0 in
+            let g = get_or ss (at * n + j) 0 in
+            let u : T (ltb 0 f && leb f g) = rw (low.there) tt in
+            let b = ltb→lt 0 f (and_yes (ltb 0 f) (leb f g) u).0 in
+            let c = leb→le f g (and_yes (ltb 0 f) (leb f g) u).1 in
+            let z : 0 < g = omega arith in
+            let e : j ≡ suc j - 1 = sym (sub-one (suc j)) in
+            (subst (λ (k : ℕ). 0 < get_or ss (at * n + k) 0) e z, subst (λ (k : ℕ). reached_at n first ss at k ≡ true) e low.there)
 
-        pub step : T (is_or_follows (view n count ds ns bs ss) (name p) (name r))
+        passes : test taken ≡ true
+        passes = test_is (suc j) (omega arith) (omega (arith, within)) there.0 ∙ there.1
+
+        entry : entry_towards (view n at ds ns bs ss) (name p) (entries_of_row n row) ≡ some taken
+        entry = lowest-at test row n 1 (suc j) (omega arith) within there.0 passes (λ i lo less pos. test_is i lo (omega (arith, within)) pos ∙ low.lowest (i - 1) (omega arith))
+
+        -- As the code names it.
+        named : record { desk = j + 1; number = get_or ss (at * n + j) 0 } ≡ taken
+        named = let k : j ≡ suc j - 1 = sym (sub-one (suc j)) in λ i. record { desk = add-one j i; number = get_or ss (at * n + k i) 0 }
+
+        -- It stands at a place before.
+        pub placed : ((k : ℕ) → k < at → name k ≡ record { desk = j + 1; number = get_or ss (at * n + j) 0 } → ⊥) → ⊥
+        placed never =
+            let x = entry_place at (omega arith) taken (show row 1 n taken (record { low = omega arith; high = omega (arith, within); value = refl; pos = there.0 })) in
+            never x.0 x.1 (x.2 ∙ sym named)
+
+        pub step : (r : ℕ) → r < at → name r ≡ record { desk = j + 1; number = get_or ss (at * n + j) 0 }
+            → T (is_or_follows (view n count ds ns bs ss) (name p) (name r))
             × (going_back (view n count ds ns bs ss) (name p) (name at) ≡ name at ∷ going_back (view n count ds ns bs ss) (name p) (name r))
-        step =
-            let k = b.less (omega arith) in (
-              rw (← follows_there n ds ns bs ss count s at r (omega arith) k (name p), found, test_is (suc j) (omega arith) (omega (arith, reached)) there.0, there.1) tt,
+        step r k e =
+            let found : name r ≡ taken = e ∙ named in (
+              rw (← follows_there n ds ns bs ss count s at r (omega arith) k (name p), found, passes) tt,
               back_there count at s (omega arith) (name p) ∙ back_new at (name p) (some taken) entry
                   ∙ ap (λ (g : List MarkId). name at ∷ g) (ap (going_back (l at) (name p)) (sym found) ∙ back_there at r (sound_below n count ds ns bs ss s at (omega arith)) k (name p)
                   ∙ sym (back_there count r s (omega arith) (name p))),
             )
+
+-- THE STEP BACK, by what was found
+
+module _ (n : ℕ) (ds ns ss first : List ℕ) (at : ℕ) where
+  pub stepped_nowhere : ((j : ℕ) → j < n → reached_at n first ss at j ≡ false) → SteppedBack n ds ns ss first at None
+  stepped_nowhere never = λ p q lo hi w count k bs sound t. reached n ds ns bs ss count sound p q at first lo hi k w t never
+
+  pub stepped : (j : ℕ) → LowestAt n first ss at j → (r : Option Place) → PlaceBelow ds ns at (record { desk = j + 1; number = get_or ss (at * n + j) 0 }) r → SteppedBack n ds ns ss first at r
+  stepped j low None never = λ p q lo hi w count k bs sound t. placed n ds ns bs ss count sound p q at first lo hi k w t j low never
+  stepped j low (Some r) found = record {
+    less = found.0;
+    towards = λ p q lo hi w count k bs sound t. step n ds ns bs ss count sound p q at first lo hi k w t j low r.0 found.0 found.1;
+  }

@@ -4,7 +4,9 @@ use lib.Dec.{T}
 use mathlib.Core.List.{List, [], ◌++◌, ◌∷◌, append_assoc, append-nil, reverse, reverse-cons}
 use mathlib.Core.Path.{◌∙◌, ◌≡◌, ap, sym}
 use native.Mathlib.Omega.{arith}
+use Rattle.std.proofs.Common.{Option, Some, None, unwrap_or}
 use Rattle.frame.specs.Names.{MarkId}
+use Rattle.causality.specs.declared.Place.{Place}
 use Rattle.causality.specs.Evidence.{going_back}
 use Rattle.causality.specs.Marks.{places}
 use Rattle.causality.specs.State.{Mark}
@@ -14,7 +16,7 @@ use Rattle.pairs.proofs.Longer.{longer, longer-names, longer_spare}
 use Rattle.queries.specs.inner.Lent.{OfMarks}
 use Rattle.rows.specs.View.{name_at, names_down, view}
 use Rattle.concurrent.specs.inner.Steps.{Tells, is_or_follows}
-use Rattle.evidence.specs.inner.Steps.{GoneBack, SteppedBack}
+use Rattle.evidence.specs.inner.Steps.{GoneBack, SteppedBack, SteppedTo}
 use Rattle.evidence.proofs.Chains.{back_end, follows-later}
 
 module _ (n : ℕ) (ds ns ss : List ℕ) (p q : ℕ) where
@@ -48,7 +50,7 @@ module _ (n : ℕ) (ds ns ss : List ℕ) (p q : ℕ) where
     more : (r : ℕ) → names (listing r) ≡ name_at ds ns r ∷ names list
     more r = let h = w.small in longer-names list w.spare (name_at ds ns r).desk (name_at ds ns r).number (omega arith)
 
-    pub walk_turn : (first : List ℕ) → p < at → Tells n ds ns ss p (q + 1) first → (r : ℕ) → SteppedBack n ds ns ss first at r → WalkedTo (listing at) r
+    pub walk_turn : (first : List ℕ) → p < at → Tells n ds ns ss p (q + 1) first → (r : ℕ) → SteppedTo n ds ns ss first at r → WalkedTo (listing at) r
     walk_turn first lo tells r b =
         let h = w.small in
         let less = b.less in
@@ -63,6 +65,18 @@ module _ (n : ℕ) (ds ns ss : List ℕ) (p q : ℕ) where
                 x.1 ∙ ap (λ (g : List MarkId). reverse g ++ names list) y.1 ∙ ap (λ (g : List MarkId). g ++ names list) (reverse-cons (name_at ds ns at) (going_back l (name_at ds ns p) (name_at ds ns r)))
                     ∙ append_assoc (back l r) (name_at ds ns at ∷ []) (names list) ∙ ap (λ (g : List MarkId). back l r ++ g) (sym (more at)),
               );
+        }
+
+    -- The next place is p where there is no chain, so that the walk ends.
+    pub walk_back : (first : List ℕ) (e : Place) → p ≡ e.0 → p < at → Tells n ds ns ss p (q + 1) first → (r : Option Place) → SteppedBack n ds ns ss first at r
+        → WalkedTo (listing at) (unwrap_or r e).0
+    walk_back first e i lo tells (Some r) b = walk_turn first lo tells r.0 b
+    walk_back first e i lo tells None b =
+        let h = w.small in
+        record {
+          small = omega arith;
+          spare = longer_spare list w.spare (name_at ds ns at).desk (name_at ds ns at).number;
+          listed = λ count k bs s t. absurd (b p (q + 1) lo (omega arith) tells count (omega arith) bs s (w.listed count k bs s t).0);
         }
 
     pub walk_ends : at ≤ p → p ≤ q → GoneBack n ds ns ss p q (listing p)

@@ -1,21 +1,19 @@
 -- What is found is of some desk, so it fits; what is left is what every desk that lends these arrays is promised.
-use Rattle.std.proofs.Common.{length}
 use Rattle.desk.proofs.Invariant.{kept-lent}
-use Rattle.abi.specs.Exports.{mark_id}
 use Rattle.abi.proofs.LentEvidence.{found_in, lent_export}
 use Rattle.abi.proofs.lent.kaungimewe_evidence_lent.Goals as goal
 
-pub find_evidence-found-requires : goal.find_evidence-found-requires
-find_evidence-found-requires c = record { count = _; marks = kept-lent _ c.requires.kept }
+pub evidence_list-found-requires : goal.evidence_list-found-requires
+evidence_list-found-requires c = record { count = _; marks = kept-lent _ c.requires.kept }
 
 pub fill-requires : goal.fill-requires
 fill-requires c =
     let a = c.args in
     let some = c.requires in
-    let s = found_in a.desks a.numbers a.stamps a.tally a.last a.before (mark_id a.a a.n) (mark_id a.b a.m) (length a.out.now) c.find_evidence-found.result c.find_evidence-found.ensures some.own some.rest some.queue some.kept in
+    let s = found_in a.desks a.numbers a.stamps a.tally a.last a.before _ _ _ _ c.evidence_list-found.ensures some.own some.rest some.queue some.kept in
     (s.few, s.few_places)
 
 pub returns : goal.returns
 returns c =
     let a = c.args in
-    lent_export a.desks a.numbers a.stamps a.tally a.last a.before (mark_id a.a a.n) (mark_id a.b a.m) a.out.now c.fill.new.out c.find_evidence-found.result c.evidence_of.result c.find_evidence-found.ensures c.fill.ensures.1 c.evidence_of.ensures
+    rw (← c.named-one.ensures, ← c.named-other.ensures) (lent_export a.desks a.numbers a.stamps a.tally a.last a.before _ _ _ _ _ _ c.evidence_list-found.ensures c.fill.ensures.1 c.evidenced.ensures)
