@@ -15,7 +15,7 @@ use std::io;
 type Desks = [Desk; WIDTH];
 
 // The frame of each desk's mark of a round, by the desk's index.
-type Round = [Slot; WIDTH];
+type Frames = [Slot; WIDTH];
 
 // In which order a desk is handed the others' frames: from desk 16 down, from desk 1 up, or from the next desk round.
 #[derive(Clone, Copy)]
@@ -53,7 +53,7 @@ fn created(rt: &impl Print, desks: &mut Desks) -> io::Result<()>
 
 // Each desk makes its mark of a number.
 #[tactic(auto, using(crate::proofs::Desks::all_set))]
-fn all_make(rt: &impl Print, desks: &mut Desks, n: u16, frames: &mut Round) -> io::Result<()>
+fn all_make(rt: &impl Print, desks: &mut Desks, n: u16, frames: &mut Frames) -> io::Result<()>
     requires { AllKept desks.old }
     ensures { AllKept desks.new }
 {
@@ -65,7 +65,7 @@ fn all_make(rt: &impl Print, desks: &mut Desks, n: u16, frames: &mut Round) -> i
 }
 
 // The desk at index k is handed the others' frames.
-fn receives(desk: &mut Desk, k: u8, order: Order, frames: &Round) -> Sums
+fn receives(desk: &mut Desk, k: u8, order: Order, frames: &Frames) -> Sums
     requires { (k < width) × Kept desk.old }
     ensures { Kept desk.new }
 {
@@ -86,7 +86,7 @@ fn all_receive(
     desks: &mut Desks,
     label: &str,
     order: Order,
-    frames: &Round,
+    frames: &Frames,
 ) -> io::Result<()>
     requires { AllKept desks.old }
     ensures { AllKept desks.new }
