@@ -18,6 +18,7 @@ type Desks = [Desk; WIDTH];
 type Frames = [Slot; WIDTH];
 
 // In which order a desk is handed the others' frames: from desk 16 down, from desk 1 up, or from the next desk round.
+// Cases and no closures, which would be no plainer: the cases name the orders, and one bound on k and i serves all three.
 #[derive(Clone, Copy)]
 enum Order {
     Falling,
