@@ -3,4 +3,4 @@ use Rattle.desk_vectors.proofs.Desks.{all_set}
 use Rattle.desk_vectors.proofs.sixteen.all_make.Goals as goal
 
 pub returns-in_err-mark_in : goal.returns-in_err-mark_in
-returns-in_err-mark_in g c = all_set c.loop-k.k c.loop-k.invariant c.mark_in.ensures
+returns-in_err-mark_in g c = all_set _ c.loop-k.invariant c.mark_in.ensures
