@@ -1,5 +1,5 @@
 -- Turns of the loops of Apart: a row of first followers is tested, and marks apart are listed. Assumes nothing.
-use Prim.Native.Nat.{◌+◌, ◌-◌, ◌<◌, ◌≤◌, suc, ℕ}
+use Prim.Native.Nat.{◌+◌, ◌<◌, ◌≤◌, suc, ℕ}
 use borrow.Author.Tests.{le-ltb, lt-ltb}
 use lib.Dec.{T, leb, ltb}
 use lib.ListN.{get_or}
@@ -19,7 +19,7 @@ use Rattle.pairs.specs.declared.Listed.{Listed}
 use Rattle.pairs.proofs.Longer.{longer, longer-names, longer_spare}
 use Rattle.rows.specs.declared.Executed.{Executed}
 use Rattle.rows.specs.Executed.{executed_in, marks_to}
-use Rattle.rows.specs.View.{Carried, carried_at, name_at, names_down, width}
+use Rattle.rows.specs.View.{Carried, carried_at, name_at, names_down, view, width}
 use Rattle.rows.specs.inner.Slots.{row_fn}
 use Rattle.rows.proofs.Places.{has-at, ids-names}
 use Rattle.concurrent.specs.inner.Steps.{Tells}

@@ -17,7 +17,7 @@ use Rattle.causality.proofs.Upto.{any_to_cong}
 use Rattle.causality.specs.inner.Order.{CausallyOrdered}
 use Rattle.rows.specs.declared.Executed.{Executed}
 use Rattle.rows.specs.Executed.{mark_in, marks_to}
-use Rattle.rows.specs.View.{Carried, carried_at, row_at, width}
+use Rattle.rows.specs.View.{Carried, carried_at, row_at, view, width}
 use Rattle.rows.specs.inner.Slots.{row_fn}
 use Rattle.rows.proofs.Arrays.{sound_below}
 use Rattle.rows.proofs.Places.{precedes_no_earlier, precedes_there}
