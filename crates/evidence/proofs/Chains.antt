@@ -1,5 +1,5 @@
 -- The chain by places: it goes back by one step, and ends at the earlier mark. Assumes nothing.
-use Prim.Native.Nat.{◌+◌, ◌-◌, ◌*◌, ◌<◌, ◌≤◌, suc, zero, ℕ}
+use Prim.Native.Nat.{◌+◌, ◌-◌, ◌<◌, ◌≤◌, suc, zero, ℕ}
 use lib.Dec.{T, leb, leb→le, ltb, ltb→lt, nltb→le, not_T}
 use lib.ListN.{get_or}
 use mathlib.Core.Bool.{Bool, ◌&&◌, ◌||◌, false, true}
@@ -25,7 +25,7 @@ use Rattle.causality.proofs.RowLaws.{show, shown}
 use Rattle.causality.specs.Rows.{entries_of_row}
 use Rattle.rows.specs.declared.Executed.{Executed}
 use Rattle.rows.specs.Executed.{mark_in, marks_to}
-use Rattle.rows.specs.View.{Carried, carried_at, name_at, row_at, width}
+use Rattle.rows.specs.View.{Carried, carried_at, name_at, row_at, view, width}
 use Rattle.rows.specs.inner.Slots.{row_fn}
 use Rattle.rows.proofs.Arrays.{follows_below, sound_below}
 use Rattle.rows.proofs.Places.{has-at, ids-names, not_before, precedes_no_earlier, precedes_there, name-place}

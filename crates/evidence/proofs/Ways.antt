@@ -4,12 +4,12 @@ use borrow.Author.Tests.{le-ltb, lt-ltb, ne_eqb}
 use lib.Dec.{T, leb, ltb, ltb→lt, nltb→le}
 use lib.ListN.{get_or, length, length-reverse}
 use mathlib.Core.Bool.{Bool, ◌&&◌, ◌||◌, false, true}
-use mathlib.Core.List.{List, [], reverse, reverse-reverse}
+use mathlib.Core.List.{List, reverse, reverse-reverse}
 use mathlib.Core.Logic.{◌⊎◌, inl, inr}
 use mathlib.Core.Path.{◌∙◌, ◌≡◌, ap, refl, subst, sym}
 use native.Mathlib.Omega.{arith}
 use Rattle.std.specs.Prelude.{Err, None, Ok, Some}
-use Rattle.frame.specs.Answer.{Answer, answer_of, gives, refuse_if, refused}
+use Rattle.frame.specs.Answer.{Answer, gives, refuse_if, refused}
 use Rattle.frame.specs.Names.{MarkId}
 use Rattle.frame.specs.declared.Refusal.TheVariants.{NotExecuted, OutputShort}
 use Rattle.causality.specs.Answers.{Evidence, Relation, Same, Before, After, Concurrent}
@@ -194,7 +194,7 @@ module _ (executed : Executed) (l : Lent executed) (own : ℕ) (waiting : List M
                 related = relate-same executed l own waiting a b p q fa fb e;
                 names = names_as p.0 q.0 second_in list w.0 t a b first-name second-name;
                 long = long;
-                answer = ap proved (verdict-same p.0 q.0 list.count e) ∙ ap Same long;
+                answer = rw (verdict-same p.0 q.0 list.count e) (ap Same long);
               }
           go (inr (inl e)) =
               let w = at p.0 q.0 (omega arith) (omega arith) in
@@ -205,7 +205,7 @@ module _ (executed : Executed) (l : Lent executed) (own : ℕ) (waiting : List M
                 related = relate_forward executed l own waiting a b p q fa fb s true true refl e (precedes-at-places executed p.0 q.0 e true w.1);
                 names = names_as p.0 q.0 second_in list w.0 t a b first-name second-name;
                 long = long;
-                answer = ap proved (verdict_before p.0 q.0 list.count (λ z. omega arith) e) ∙ ap Before long;
+                answer = rw (verdict_before p.0 q.0 list.count (λ z. omega arith) e) (ap Before long);
               }
           go (inr (inr e)) =
               let w = at q.0 p.0 (omega arith) (omega arith) in
@@ -216,7 +216,7 @@ module _ (executed : Executed) (l : Lent executed) (own : ℕ) (waiting : List M
                 related = relate_back executed l own waiting a b p q fa fb s true true refl e (precedes-at-places executed q.0 p.0 e true w.1);
                 names = names_as q.0 p.0 first_in list w.0 t b a second-name first-name;
                 long = long;
-                answer = ap proved (verdict_after p.0 q.0 list.count (λ z. omega arith) (omega arith)) ∙ ap After long;
+                answer = rw (verdict_after p.0 q.0 list.count (λ z. omega arith) (omega arith)) (ap After long);
               }
 
       pub evidence_too_short : FollowsAt executed from to true → (list : Listed) → GoneBack executed from to list → room < list.count
