@@ -1,4 +1,4 @@
--- Order 5: the evidence behind a verdict is Relate's verdict, with a chain of entries or with counts below the marks' own numbers. Assumes nothing.
+-- The evidence behind a verdict is Relate's verdict, with a chain of entries or with counts below the marks' own numbers. Assumes nothing.
 use Prim.Native.Nat.{◌<◌, ◌≤◌, suc, ℕ}
 use lib.Dec.{T, T_not, eqb, leb, ltb, ltb→lt, not_T}
 use lib.ListN.{length, length-reverse}
@@ -49,7 +49,7 @@ all-has : (P : MarkId → Type 0) (es : List MarkId) → All P es → (e : MarkI
 all-has P [] a e t = absurd t
 all-has P (f ∷ fs) a e t = elim (or_yes (same e f) (has e fs) t) [ inl q ↦ rw (same→eq e f q) a.0 | inr q ↦ all-has P fs a.1 e q ]
 
--- "the entry of lowest desk that is the earlier mark or follows it".
+-- entry_towards takes, of the entries that lead on, the one of lowest desk.
 entry-lowest : (l : List Mark) (a : MarkId) (es : List MarkId) → Lowest (λ e. e) (λ e. same a e || precedes l a e) es (entry_towards l a es)
 entry-lowest l a es = lowest_least (λ e. e) (λ e. same a e || precedes l a e) es
 
@@ -253,7 +253,7 @@ told_by_count l s i b t = bool_ext (precedes l i b) (leb i.number (in_past l i.d
     k : Consecutive (keep p (ids l))
     k = keep-counted p (ids l) c (past-first-run l s b)
 
--- "below the marks' own numbers".
+-- Each count is below the number of the mark whose desk it is of.
 in_past_below : (l : List Mark) → CausallyOrdered l → (a b : MarkId) → T (has a (ids l)) → T (not (precedes l a b)) → in_past l a.desk b < a.number
 in_past_below l s a b t n = leb_no (rw (told_by_count l s a b t) at n)
 

@@ -150,7 +150,7 @@ module _ (N : ℕ) where
         (record { strict = f.strict; above = λ e t. (f.entries e t).low; range = f.entries; earlier = f.earlier }));
   }
 
-  -- "23 + 3·c", "25 + 3·c".
+  -- The size of its frame, in the edition that its past tells.
   abbrev pub mark_size : Mark → ℕ
   mark_size m = (edition_of m.past).head + 3 * length m.stamp
 
@@ -239,7 +239,7 @@ pub entries-same : (es : List MarkId) → same_entries es es ≡ true
 entries-same [] = refl
 entries-same (e ∷ es) = rw (T→eq (same e e) (same_refl e)) (entries-same es)
 
--- "their fields agree, past count included where both have it".
+-- Refusals: same fields.
 pub same_fields_lem : (h m : Mark) → T (same_fields h m) → (h.extent ≡ m.extent) × (h.stamp ≡ m.stamp) × T (same_count h.past m.past)
 unfolding same_fields
 same_fields_lem h m t =

@@ -28,7 +28,7 @@ pub receive_growth : (N : ℕ) (st : State) (s : List ℕ)
 unfolding receive_of
 receive_growth N st s = case_growth st (mark_in N s) _ (received_case N st s)
 
--- Order 1: "Waiting carries that number, which is never 0".
+-- Waiting carries a number above 0.
 case_short : (st : State) (m : Mark) (j : Answer (Judgement Mark)) (n : ℕ) → JudgeCase rules st m j → (act st j).answer ≡ gives (Waiting n) → 0 < n
 unfolding executing_by
 case_short st m j n (to_refuse c) e = let z : ◌≡◌ {A = ℕ} 0 1 = cc in omega arith

@@ -66,7 +66,7 @@ sum_counts n r (i ∷ is) c f = go (leb i.number (r i.desk)) refl (sum_counts n 
           | inr t ↦ sym (same_else d (λ z. T_not (eqb d i.desk) t (rw z (eqb_refl i.desk))))
         ])
 
--- "by rows, the sum of the past row": two rows that together are that of the newest mark's entries, after the pass.
+-- The sum of the past row: two rows that together are that of the newest mark's entries, after the pass.
 module _ (m : Mark) (older : List Mark) (so : CausallyOrdered (m ∷ older)) (s r : ℕ → ℕ) (all : (d : ℕ) → max (s d) (r d) ≡ row_of m.stamp d) where
   abbrev row : ℕ → ℕ
   row d = max (s d) (under older s r d)

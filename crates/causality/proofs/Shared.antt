@@ -1,4 +1,4 @@
--- What desk and plain machine share, each pinned by a law: demand 3 compares the two, and cannot see what both would get wrong alike. Of `lowest` it is
+-- What desk and plain machine share, each pinned by a law: the theorem that compares the two cannot see what both would get wrong alike. Of `lowest` it is
 -- `lowest_least` in Lists.antt. Assumes nothing.
 use Prim.Native.Nat.{◌+◌, ◌<◌, ◌≤◌, suc, ℕ}
 use lib.Dec.{T, eqb, leb, leb→le, ltb, nleb→lt}
@@ -19,7 +19,7 @@ use Rattle.causality.proofs.Logic.{and_yes, leb_yes, ltb_yes, yes_and, yes_leb, 
 pub places-numbers : places ≤ numbers
 places-numbers = omega arith
 
--- box_rule: "start ≤ end; low < high is kept".
+-- box_rule: start ≤ end, and low < high.
 pub box_rule_lem : (b : MarkBox) → T (box_rule b) ↔ ((b.start ≤ b.end) × (b.low < b.high))
 unfolding box_rule
 box_rule_lem b =

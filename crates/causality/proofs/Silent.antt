@@ -1,4 +1,4 @@
--- Order 6 at one desk, whatever bytes it was lent: what is executed stays, with its past, so a mark that follows all of a desk goes on doing so. Assumes nothing.
+-- Silent desks, at one desk, whatever bytes it was lent: what is executed stays, with its past, so a mark that follows all of a desk goes on doing so. Assumes nothing.
 use Prim.Native.Nat.{◌≤◌, ℕ}
 use lib.Dec.{T, T_not, eqb, not_T}
 use lib.ListN.{length}

@@ -60,7 +60,7 @@ module _ (N : ℕ) where
   pub cell_in : (i j : ℕ) → i < N → j < N → i * N + j < table_size N
   cell_in i j hi hj = let a = suc-mul i N in let b = mul-le-mul_right {m = suc i} {n = N} N (omega arith) in omega arith
 
-  -- "entry (i, j) at 16·(i − 1) + j − 1 of its table", "the first table first", whatever the run has beyond.
+  -- The first table comes first, row behind row, whatever the run has beyond.
   module _ (first second : ℕ → ℕ → ℕ) (rest : List ℕ) where
     abbrev one : List ℕ
     one = table_rows N N first

@@ -1,4 +1,4 @@
--- Order 7: the tables of pairs, mark by mark, and their laws. Assumes nothing.
+-- Pair tables: the counts, mark by mark, and their laws. Assumes nothing.
 use Prim.Native.Nat.{◌*◌, ◌+◌, ◌-◌, ◌/◌, ◌≤◌, suc, zero, ℕ}
 use lib.Dec.{T, eqb, eqb→eq, not_T}
 use lib.ListN.{length}

@@ -1,4 +1,4 @@
--- Demand 3 of the calls, from their promises and history's theorem. Assumes nothing.
+-- The calls agree with the history, from their promises and history's theorem. Assumes nothing.
 use Prim.Native.Nat.{ℕ}
 use lib.Dec.{T, eqb}
 use lib.ListN.{length, length-map}

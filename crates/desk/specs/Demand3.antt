@@ -1,4 +1,4 @@
--- THE CLAIM. Demand 3 of the calls: over every sequence of markings, hand-overs of frames of either edition and conversions, whatever New, Mark,
+-- THE CLAIM (docs/SPECIFICATION.md, History: agreement): over every sequence of markings, hand-overs of frames of either edition and conversions, whatever New, Mark,
 -- Receive and the converter did within their promises, desks and plain machine agree, Relate answers as the history has it, so does Evidence, a silent
 -- desk leaves the stamps, and Pair tables counts pairs in the history.
 use Rattle.std.specs.Prelude.{◌≡◌, List, [], ◌∷◌, map, ℕ, T, Result}
@@ -91,7 +91,7 @@ abbrev pub states_of : CallRun → Run
 states_of c = record { states = c.given; frames = c.frames; answers = c.answers; conversions = c.conversions }
 
 pub record CallsAgree (fresh : ℕ → State) (s : List Step) (c : CallRun) : Type 0 where
-  -- Lists, waiting sets, answers, frames and stamps, as in history's Demand3.antt.
+  -- Lists, waiting sets, answers, frames and stamps, as history has them.
   pub agree : Agree desks (states_of c) (plain (fed s))
   -- What follows: each listed mark stands behind its past, each waiting one lacks a mark of its past, no entry of a frame happened before another,
   -- refusals 2 to 4, 6 to 8 and 11, and drops, never occur, and conversions are refused only with 12, 13 and 14.
@@ -99,14 +99,14 @@ pub record CallsAgree (fresh : ℕ → State) (s : List Step) (c : CallRun) : Ty
   -- What Relate answers, at every desk and for any two marks.
   pub relates : (d : ℕ) → T (is_desk desks d) → (a b : CodeId) (r : Result Relation Refusal) → RelatePromise (desk_at fresh c d) a b r
       → relating r ≡ relation (plain (fed s)).made (lists_at (plain (fed s)) d) (id_of a) (id_of b)
-  -- Order 5, "The evidence must hold in the history": at every desk, for any two marks and any lent pairs.
+  -- Evidence holds in the history: at every desk, for any two marks and any lent pairs.
   pub proves : (d : ℕ) → T (is_desk desks d) → (a b : CodeId) (out after : List CodeId) (r : Result Evidence Refusal)
       → EvidencePromise (desk_at fresh c d) a b out after r
       → ProvedBy (plain (fed s)).made (lists_at (plain (fed s)) d) (id_of a) (id_of b) (map id_of out) (proving r) (map id_of after)
-  -- Order 6, "A silent desk leaves the stamps": desk d is silent at desk x, and Mark makes a mark there.
+  -- Silent desks leave the stamps: desk d is silent at desk x, and Mark makes a mark there.
   pub leaves : (x d : ℕ) → T (is_desk desks x) → Silent s x d → (b : MarkBox) (lent : List ℕ) (after : State) (bytes : List ℕ) (r : Result Made Refusal)
       → MarkPromise (desk_at fresh c x) b lent after bytes r → NoneNames desks d (written x (numbering r) bytes [])
-  -- Order 7, "how many box pairs two observers made apart": at desk x the tables count the pairs of the history, of the marks executed there.
+  -- Pairs of the history: at desk x the tables count them, of the marks executed there.
   pub tabulates : (x : ℕ) → T (is_desk desks x) → (out after : List ℕ) (r : Result ℕ Refusal) → PairTablesPromise (desk_at fresh c x) out after r
       → after ≡ over_if (counting r) (tables desks (made_apart_at s x) (made_before_at s x)) out
 

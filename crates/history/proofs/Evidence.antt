@@ -1,4 +1,4 @@
--- Order 5: the evidence behind a verdict holds in the history. Assumes nothing.
+-- The evidence behind a verdict holds in the history. Assumes nothing.
 use Prim.Native.Nat.{◌≤◌, ℕ}
 use lib.ListN.{length}
 use mathlib.Core.List.{List}

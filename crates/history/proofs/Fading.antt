@@ -1,4 +1,4 @@
--- Order 6, computed by the run over bytes: a silent desk's entry fades, and "executed", "every" and "until" are each needed. Assumes nothing.
+-- A silent desk's entry fades, computed by the run over bytes; that all of its marks are followed, that they are executed and that none is new are each needed. Assumes nothing.
 use Prim.Native.Nat.{ℕ}
 use borrow.Author.Tests.{eq-eqb}
 use lib.Dec.{T, eqb}

@@ -1,4 +1,4 @@
--- The paper's Figure 1 by its Definitions 1 and 4, computed; and that what the wrong readings of must-fail/ claim does not hold there. Assumes nothing.
+-- Five marks of three desks by causal precedence and their vectors, computed; and that what the wrong readings of must-fail/ claim does not hold there. Assumes nothing.
 use Prim.Native.Nat.{ℕ}
 use lib.Dec.{T}
 use lib.ListN.{replicate}
@@ -33,15 +33,15 @@ pub record Depends (b : MarkId) (on directly : List MarkId) : Type 0 where
   pub vector : IsVector figure b directly
 
 pub record Figure1 : Type 0 where
-  -- "o_11, o_21 and o_31 have no operation causally preceding them directly;"
+  -- No mark precedes 1.1, 2.1 or 3.1.
   pub o11 : Depends (o 1 1) [] []
   pub o21 : Depends (o 2 1) [] []
   pub o31 : Depends (o 3 1) [] []
-  -- "o_12 is causally dependent on three operations o_11, o_21 and o_31."
+  -- 1.2 has three marks before it.
   pub o12 : Depends (o 1 2) (o 3 1 ∷ o 2 1 ∷ o 1 1 ∷ []) (o 1 1 ∷ o 2 1 ∷ o 3 1 ∷ [])
-  -- "o_22 is causally dependent on four operations o_11, o_21, o_31 and o_12."
+  -- 2.2 has four.
   pub o22 : Depends (o 2 2) (o 1 2 ∷ o 3 1 ∷ o 1 1 ∷ o 2 1 ∷ []) (o 1 2 ∷ [])
-  -- "o_32 is only causally dependent on o_31". Its vector is [(3, 1)], where section 3 prints [(1, 3)].
+  -- 3.2 has one, and its vector is [(3, 1)], the desk first.
   pub o32 : Depends (o 3 2) (o 3 1 ∷ []) (o 3 1 ∷ [])
 
 each : (s : List Step) → T (all (at_desk desks) s) → All (λ t. T (at_desk desks t)) s
@@ -73,13 +73,13 @@ abbrev Gap : MarkId → Type 0
 Gap i = T (has i (o 1 1 ∷ o 2 2 ∷ []))
 
 pub record Needed : Type 0 where
-  -- Definition 1 (2), "before": 2.1 was executed at desk 1, though after 1.1 was made.
+  -- Causal precedence, of different desks: 2.1 was executed at desk 1, though after 1.1 was made.
   pub executed-later : T (has (o 2 1) (listed_at figure 1)) × ¬ Precedes figure (o 2 1) (o 1 1)
-  -- Definition 1 (1), "before": 1.1 and 1.2 were both made at desk 1.
+  -- Causal precedence, of one desk: 1.1 and 1.2 were both made at desk 1.
   pub generated_later : Precedes figure (o 1 1) (o 1 2) × ¬ Precedes figure (o 1 2) (o 1 1)
-  -- Definition 2 (2): 1.1 precedes 2.2, though not directly, so Definition 4 leaves it out.
+  -- Direct precedence: 1.1 precedes 2.2, though not directly, so the vector leaves it out.
   pub between : Precedes figure (o 1 1) (o 2 2) × ¬ Links figure (o 1 1) (o 2 2)
-  -- Theorem 1, "uninterrupted": no chain in that set goes from 1.1 to 2.2.
+  -- Uninterrupted sets: no chain in a set with a gap goes from 1.1 to 2.2.
   pub interrupted : ¬ Chain figure Gap (o 1 1) (o 2 2)
 
 pub needed : Needed

@@ -1,4 +1,4 @@
--- The paper's definitions, theorem and properties hold of every sequence: from the simulation and demand 3. Assumes nothing.
+-- Causal precedence, vectors, readiness and tracing hold of every sequence as the field has them: from the simulation and the agreement. Assumes nothing.
 use Prim.Native.Nat.{◌<◌, ◌≤◌, suc, ℕ}
 use lib.Dec.{T, T_not, eqb, eqb_refl, not_T}
 use lib.ListN.{length}
@@ -148,7 +148,7 @@ module _ (N : ℕ) (sd : 1 ≤ N) (s : List Step) (at : AtDesks N s) where
   listed-made : (d : ℕ) (a : MarkId) → T (has a (listed_at s d)) → T (has a (made_in s))
   listed-made d a t = all-names mark_id (λ i. T (has i (made_in s))) (executed_at d) (all_map (recorded-made (past_at s) (plain_of s).made) (executed_at d) (inv.desks d).ok.ks) a (rw (listed-executed N sd s at d) at t)
 
-  -- "its past is the desk's list".
+  -- The past of the mark is its desk's list.
   past_listed_lem : {moment : List Step} {b : MarkId} → MadeAt s moment b → past_at s b ≡ listed_at moment b.desk
   unfolding new_made
   past_listed_lem g = ap (past_at s) (sym (made-name g)) ∙ of_moment (λ x. past_at s x.id ≡ x.past) g (fits N sd s at)
@@ -169,7 +169,7 @@ unmade-past xs b t = go (past_of xs b) refl
     go [] e = refl
     go (a ∷ is) e = absurd (T_not (has b (made_ids xs)) t (past-made xs a b (rw e (has-self a is))))
 
--- DEFINITION 1
+-- CAUSAL PRECEDENCE
 
 module _ (N : ℕ) (s : List Step) (at : AtDesks N s) where
   abbrev in_past : MarkId → MarkId → Type 0
@@ -215,7 +215,7 @@ module _ (N : ℕ) (s : List Step) (at : AtDesks N s) where
   definition_1 : (a b : MarkId) → Precedes s a b ↔ in_past a b
   definition_1 a b = (in_past_lem, preceded a b)
 
-  -- THEOREM 1
+  -- UNINTERRUPTED SETS
 
   -- The entries of a mark with a past are its links.
   entry_link : (m : Mark) → Good (past_at s) m → (e : MarkId) → T (has e m.stamp) → Links s e m.id
@@ -254,7 +254,7 @@ module _ (N : ℕ) (s : List Step) (at : AtDesks N s) where
       along,
     )
 
-  -- DEFINITION 4
+  -- VECTORS
 
   vector_entry : (x b : MarkId) → T (has x (last_of_past (plain_of s).made b)) ↔ Links s x b
   unfolding last_of_past
@@ -285,7 +285,7 @@ module _ (N : ℕ) (s : List Step) (at : AtDesks N s) where
       go (inl t) = of_made N (desk_of_lem b t) s at (λ i. RisingDesks (last_of_past (plain_of s).made i)) (λ m r f. subst RisingDesks r.stamp (strict_rising m.stamp f.strict)) b t
       go (inr t) = rw (unmade-past (plain_of s).made b t) tt
 
-  -- PROPERTY 1
+  -- CAUSALLY READY
 
   module _ (l : List Mark) (h : Standing (past_at s) l) where
     is-ready : (m : Mark) → Good (past_at s) m → IsReady s l m
@@ -309,7 +309,7 @@ module _ (N : ℕ) (s : List Step) (at : AtDesks N s) where
         back : ((a : MarkId) → in_past a m.id → T (has a (ids l))) → T (ready l m)
         back f = rw (ready-past (past_at s) l h m g) (all_intro (λ a. has a (ids l)) (past_at s m.id) f)
 
-    -- PROPERTY 2
+    -- TRACING
 
     traces : (a b : MarkId) → T (has b (ids l)) → T (precedes l a b) ↔ Precedes s a b
     traces a b tb = (λ t. preceded a b (rw (precedes-past (past_at s) l h a b tb) at t), λ p. rw (precedes-past (past_at s) l h a b tb) (in_past_lem p))
@@ -390,6 +390,6 @@ paper N s at = record {
   desks = λ d t. paper-at N (some_desk N d t) s at d;
 }
 
--- At the document's count of desks.
+-- At our count of desks.
 pub paper_ours : Paper desks
 paper_ours = paper desks

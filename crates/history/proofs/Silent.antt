@@ -1,4 +1,4 @@
--- Order 6 over sequences: the law of one desk, carried into the history by demand 3. Assumes nothing.
+-- Silent desks over sequences: the law of one desk, carried into the history by the agreement of the two. Assumes nothing.
 use Prim.Native.Nat.{◌≤◌, ℕ}
 use lib.Dec.{T}
 use mathlib.Core.List.{List, [], ◌++◌, ◌∷◌}
@@ -28,7 +28,7 @@ use Rattle.history.proofs.Lookup.{fresh, look-new}
 use Rattle.history.proofs.Sequence.{AtDesks, inv_of, past_at, plain_of}
 use Rattle.history.proofs.Theorem.{listed-executed, some_desk}
 
--- DEMAND 3: at desk x the list is the executed marks, and what happened before is what precedes.
+-- THE AGREEMENT: at desk x the list is the executed marks, and what happened before is what precedes.
 
 module _ (N : ℕ) (s : List Step) (at : AtDesks N s) (x : ℕ) (tx : T (is_desk N x)) where
   abbrev st : State

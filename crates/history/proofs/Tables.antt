@@ -1,4 +1,4 @@
--- Order 7 over sequences: the entries of a desk's tables count pairs in the history, by demand 3. Assumes nothing.
+-- Pair tables over sequences: the entries of a desk's tables count pairs in the history, since the two agree. Assumes nothing.
 use Prim.Native.Nat.{ℕ}
 use lib.Dec.{T}
 use lib.ListN.{length}

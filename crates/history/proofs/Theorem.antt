@@ -1,4 +1,4 @@
--- Demand 3, and what follows from it. Assumes nothing.
+-- The desks agree with the history, and what follows from it. Assumes nothing.
 use Prim.Native.Nat.{◌<◌, ◌≤◌, suc, ℕ}
 use lib.Dec.{T, eqb, leb, ltb}
 use lib.ListN.{length}
@@ -188,6 +188,6 @@ demand3 N s at = (both N s at).0
 pub consequences : (N : ℕ) → Consequences N
 consequences N s at = (both N s at).1
 
--- At the document's count of desks.
+-- At our count of desks.
 pub demand3_ours : Demand3 desks
 demand3_ours = demand3 desks
