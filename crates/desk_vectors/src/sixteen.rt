@@ -116,5 +116,6 @@ pub fn run(rt: &impl Print) -> io::Result<()> {
     created(rt, &mut desks)?;
     two_rounds(rt, &mut desks)?;
     third_round(rt, &mut desks)?;
-    relations(rt, &desks[WIDTH - 1])
+    let [.., last] = &desks;
+    relations(rt, last)
 }
