@@ -17,7 +17,7 @@ use Rattle.rows.specs.View.{carried_at, width}
 use Rattle.rows.specs.declared.Executed.{Executed}
 use Rattle.rows.proofs.Arrays.{view-length}
 use Rattle.rows.proofs.Columns.{boxes-back, desks-back, eq→eqb, numbers-back, pasts-back, stamps-back, tabled_is}
-use Rattle.executed.specs.Columns.{before_at, executed_of}
+use Rattle.executed.specs.inner.Columns.{before_at, executed_of}
 use Rattle.executed.specs.inner.Rows.{Chained, last_in}
 use Rattle.executed.specs.inner.Takes.{Ordered}
 

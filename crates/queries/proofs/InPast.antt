@@ -1,5 +1,5 @@
 -- How many marks of a desk a row reaches, and so how many precede a mark. n: how many desks. Assumes nothing.
-use Prim.Native.Nat.{◌*◌, ◌+◌, ◌-◌, ◌<◌, ◌≤◌, min, suc, ℕ}
+use Prim.Native.Nat.{◌+◌, ◌-◌, ◌<◌, ◌≤◌, min, suc, ℕ}
 use borrow.Author.Tests.{eqb-true, lt-leb, lt-ltb}
 use lib.Dec.{T, eqb, leb, leb→le, nleb→lt}
 use lib.ListN.{get_or, replicate}
@@ -60,7 +60,7 @@ tally-run d r p (i ∷ is) c f = go (eqb d i.desk) refl (p i) refl (tally-run d 
     go false e true g ih = rw (e, tally) ih
     go false e false g ih = ih
 
-module _ (n : ℕ) (ds ns : List ℕ) (bs : ℕ → Carried) (ss : List ℕ) where
+module _ (n : ℕ) (ds ns : List ℕ) (bs : ℕ → Carried) (ss : List (List ℕ)) where
   -- A ROW THAT IS FOLLOWED
 
   module _ (d : ℕ) (lo : 1 ≤ d) (most : ℕ) (row : List ℕ) (at : ℕ) where
@@ -105,7 +105,7 @@ module _ (n : ℕ) (ds ns : List ℕ) (bs : ℕ → Carried) (ss : List ℕ) whe
 
   -- THE PAST OF A MARK
 
-  module _ (count p : ℕ) (h : p < count) (named : Named n p ds) (s : CausallyOrdered (view n count ds ns bs ss)) (row : List ℕ) (er : (j : ℕ) → j < n → get_or row j 0 ≡ get_or ss (p * n + j) 0)
+  module _ (count p : ℕ) (h : p < count) (named : Named n p ds) (s : CausallyOrdered (view n count ds ns bs ss)) (row : List ℕ) (er : (j : ℕ) → j < n → get_or row j 0 ≡ get_or (get_or ss p []) j 0)
       (d : ℕ) (lo : 1 ≤ d) (hi : d ≤ n) where
     abbrev l : List Mark
     l = view n count ds ns bs ss

@@ -1,10 +1,10 @@
 -- Precedence by one row that is joined place by place, down to the place of the mark that is looked for. n: how many desks. Assumes nothing.
-use Prim.Native.Nat.{◌*◌, ◌+◌, ◌-◌, ◌<◌, ◌≤◌, max, ℕ}
+use Prim.Native.Nat.{◌-◌, ◌<◌, ◌≤◌, max, ℕ}
 use borrow.Author.Tests.{le-leb, lt-leb}
 use lib.Dec.{T, leb, not_T}
 use lib.ListN.{get_or}
 use mathlib.Core.Bool.{false, true}
-use mathlib.Core.List.{List}
+use mathlib.Core.List.{List, []}
 use mathlib.Core.Path.{◌∙◌, ◌≡◌, ap, subst, sym}
 use native.Mathlib.Omega.{arith}
 use Rattle.frame.specs.Names.{MarkId}
@@ -22,7 +22,7 @@ use Rattle.rows.proofs.RowSteps.{named-desks, named-less, under_joined, under-pa
 pub no_row : (k : ℕ) → max 0 k ≡ k
 no_row k = omega arith
 
-module _ (n : ℕ) (ds ns : List ℕ) (bs : ℕ → Carried) (ss : List ℕ) where
+module _ (n : ℕ) (ds ns : List ℕ) (bs : ℕ → Carried) (ss : List (List ℕ)) where
   -- What a row reaches at desk d, from the first k places.
   abbrev pub reached : ℕ → List ℕ → ℕ → ℕ
   reached k row d = under (view n k ds ns bs ss) (λ d. 0) (row_fn row) d
@@ -41,7 +41,7 @@ module _ (n : ℕ) (ds ns : List ℕ) (bs : ℕ → Carried) (ss : List ℕ) whe
 
   -- The mark at the last place is counted, and its row is joined.
   pub reach_joined : (k : ℕ) (row row' : List ℕ) → 0 < k → Named n k ds → get_or ns (k - 1) 0 ≤ row_fn row (get_or ds (k - 1) 0)
-      → ((j : ℕ) → j < n → get_or row' j 0 ≡ max (get_or row j 0) (get_or ss ((k - 1) * n + j) 0)) → (d : ℕ) → 1 ≤ d → d ≤ n → reached (k - 1) row' d ≡ reached k row d
+      → ((j : ℕ) → j < n → get_or row' j 0 ≡ max (get_or row j 0) (get_or (get_or ss (k - 1) []) j 0)) → (d : ℕ) → 1 ≤ d → d ≤ n → reached (k - 1) row' d ≡ reached k row d
   reach_joined k row row' z f q h d lo hi =
       under_joined n ds ns bs ss (λ d. 0) (k - 1) (view n (k - 1) ds ns bs ss) (named-desks n (k - 1) ds ns bs ss (named-less n k ds (k - 1) f (omega arith))) row row'
       (le-leb (get_or ns (k - 1) 0) (max 0 (row_fn row (get_or ds (k - 1) 0))) (omega arith)) h d lo hi

@@ -1,25 +1,29 @@
 -- Relate by the places of the two marks: only the earlier one can precede the other. n: how many desks. Assumes nothing.
-use Prim.Native.Nat.{◌<◌, ◌≤◌, ℕ}
+use Prim.Native.Nat.{◌<◌, ℕ}
 use lib.Dec.{T, not_T}
 use mathlib.Core.Bool.{Bool, ◌&&◌, false, not, true}
 use mathlib.Core.List.{List}
 use mathlib.Core.Path.{◌∙◌, ◌≡◌, ap, refl, subst, sym}
 use native.Mathlib.Omega.{arith}
+use Rattle.std.specs.Prelude.{None, Some}
 use Rattle.frame.specs.Answer.{Answer, gives, refuse_if, refused}
 use Rattle.frame.specs.Names.{MarkId}
 use Rattle.causality.specs.Answers.{After, Before, Concurrent, Relation, Same}
 use Rattle.causality.specs.Calls.{relate}
 use Rattle.causality.specs.Kinds.{relate_by}
+use Rattle.causality.specs.declared.Place.{Place}
 use Rattle.causality.specs.Marks.{find, has, places, same}
 use Rattle.causality.specs.State.{Mark, State, ids, mark_id, precedes}
 use Rattle.causality.proofs.Logic.{T→eq, nT→eq, same_refl, same→eq}
 use Rattle.causality.specs.inner.Order.{CausallyOrdered}
-use Rattle.executed.specs.inner.Rows.{Finds, Lent}
-use Rattle.executed.proofs.Chain.{found_inside, found-place}
-use Rattle.rows.specs.View.{Carried, name_at, view, width}
+use Rattle.executed.specs.inner.Rows.{Finds, HasChain, Lent}
+use Rattle.executed.proofs.Chain.{found-absent, found_inside, found-place}
+use Rattle.rows.specs.declared.Executed.{Executed}
+use Rattle.rows.specs.Executed.{executed_in}
+use Rattle.rows.specs.View.{Carried, carried_at, name_at, view, width}
 use Rattle.rows.specs.inner.Slots.{Named, place_at}
 use Rattle.rows.proofs.RowSteps.{named-less}
-use Rattle.rows.proofs.Places.{found_none, found_some, has-at, not_before, precedes_no_earlier}
+use Rattle.rows.proofs.Places.{found_some, has-at, not_before, precedes_no_earlier}
 use Rattle.queries.specs.inner.Lent.{HasLent, queried_state}
 use Rattle.queries.specs.inner.Steps.{PrecedesAt}
 
@@ -31,25 +35,27 @@ unfolding relate_by
 relate_as st a b x y s u v ex ey es eu ev =
     λ i. refuse_if (not (ex i && ey i)) 12 (gives (elim (es i) [ true ↦ Same | false ↦ elim (eu i) [ true ↦ Before | false ↦ elim (ev i) [ true ↦ After | false ↦ Concurrent ] ] ]))
 
-module _ (n count : ℕ) (ds ns : List ℕ) (bs : ℕ → Carried) (ss : List ℕ) (own : ℕ) (waiting : List Mark) where
+-- One of them is not executed.
+module _ (st : State) (a b : MarkId) where
+  no_first : has a (ids st.executed) ≡ false → relate st a b ≡ refused 12
+  no_first h = relate_as st a b false _ _ _ _ h refl refl refl refl
+
+  no_second : has b (ids st.executed) ≡ false → relate st a b ≡ refused 12
+  no_second h = relate_as st a b _ false _ _ _ refl h refl refl refl ∙ none_of _ (has a (ids st.executed))
+    where
+      none_of : (z : Answer Relation) (x : Bool) → refuse_if (not (x && false)) 12 z ≡ refused 12
+      none_of z true = refl
+      none_of z false = refl
+
+module _ (n count : ℕ) (ds ns : List ℕ) (bs : ℕ → Carried) (ss : List (List ℕ)) (own : ℕ) (waiting : List Mark) where
   abbrev st : State
   st = record { own = own; executed = view n count ds ns bs ss; waiting = waiting }
 
-  -- Mark a is found at place p, or p is no place below the count and a is not executed.
+  -- Mark a is found at place p.
   abbrev FoundAt : MarkId → ℕ → Type 0
   FoundAt a p = place_at n count p ds ns bs ss ≡ find mark_id a (view n count ds ns bs ss)
 
   module _ (a b : MarkId) (p q : ℕ) (fa : FoundAt a p) (fb : FoundAt b q) where
-    no_first : count ≤ p → relate st a b ≡ refused 12
-    no_first h = relate_as st a b false _ _ _ _ (found_none n ds ns bs ss count p a h fa).1 refl refl refl refl
-
-    no_second : count ≤ q → relate st a b ≡ refused 12
-    no_second h = relate_as st a b _ false _ _ _ refl (found_none n ds ns bs ss count q b h fb).1 refl refl refl ∙ none_of _ (has a (ids st.executed))
-      where
-        none_of : (z : Answer Relation) (x : Bool) → refuse_if (not (x && false)) 12 z ≡ refused 12
-        none_of z true = refl
-        none_of z false = refl
-
     module _ (h : p < count) (l : q < count) where
       first : (name_at ds ns p ≡ a) × (has a (ids st.executed) ≡ true)
       first = let x = found_some n ds ns bs ss count p a h fa in (x.1, T→eq (has a (ids st.executed)) x.2)
@@ -82,42 +88,48 @@ module _ (n count : ℕ) (ds ns : List ℕ) (bs : ℕ → Carried) (ss : List �
             (λ c. not_before n ds ns bs ss count p p s h (omega arith) (subst (λ (i : MarkId). T (has i (ids (view n p ds ns bs ss)))) (second.0 ∙ sym c ∙ sym first.0) (has-at n ds ns bs ss p q o)))
             (precedes_no_earlier n ds ns bs ss count p q s h (omega arith)) (sym e)
 
--- LENT ARRAYS
+-- EXECUTED MARKS THAT ARE LENT
+
+-- They can be searched.
+pub lent_chain : (e : Executed) → HasLent e → HasChain e
+lent_chain e l = record { names = _; chain = l.chain }
 
 -- The marks below the place of one that is found are of desks.
-pub named_found : (ds ns ts ls bf : List ℕ) → HasLent ds ns ts ls bf → (a : MarkId) (p : ℕ) → Finds ts ls bf a p → p < places → Named width p ds
-named_found ds ns ts ls bf h a p f l =
-    let i = found_inside h.count ds ns ts ls bf h.marks a p f l in
-    named-less width h.count ds p h.marks.named (omega arith)
+pub named_found : (e : Executed) → HasLent e → (a : MarkId) (p : Place) → Finds e a (Some p) → (p.0 < places) × Named width p.0 e.desks
+named_found e l a p f =
+    let i = found_inside e l a p f in
+    let few = l.few in
+    (omega arith, named-less width e.count e.desks p.0 l.named (omega arith))
 
-module _ (count : ℕ) (ds ns ss ts ls bf : List ℕ) (l : Lent count ds ns ts ls bf) (own : ℕ) (bs : ℕ → Carried) (waiting : List Mark)
-    (a b : MarkId) (p q : ℕ) (fa : Finds ts ls bf a p) (fb : Finds ts ls bf b q) where
-  abbrev marks : List Mark
-  marks = view width count ds ns bs ss
+module _ (e : Executed) (l : Lent e) (own : ℕ) (waiting : List Mark) (a b : MarkId) where
+  pub relate_no_first : Finds e a None → relate (queried_state e own waiting) a b ≡ refused 12
+  relate_no_first f = no_first (queried_state e own waiting) a b (found-absent e l a f)
 
-  at_first : place_at width count p ds ns bs ss ≡ find mark_id a (view width count ds ns bs ss)
-  at_first = found-place count ds ns ts ls bf l a p fa bs ss
+  pub relate_no_second : Finds e b None → relate (queried_state e own waiting) a b ≡ refused 12
+  relate_no_second f = no_second (queried_state e own waiting) a b (found-absent e l b f)
 
-  at_second : place_at width count q ds ns bs ss ≡ find mark_id b (view width count ds ns bs ss)
-  at_second = found-place count ds ns ts ls bf l b q fb bs ss
+  module _ (p q : Place) (fa : Finds e a (Some p)) (fb : Finds e b (Some q)) where
+    abbrev carried : ℕ → Carried
+    carried = carried_at e.boxes e.pasts
 
-  pub relate_no_first : places ≤ p → relate (queried_state count ds ns ss own bs waiting) a b ≡ refused 12
-  relate_no_first h = let f = l.few in no_first width count ds ns bs ss own waiting a b p q at_first at_second (omega arith)
+    at_first : place_at width e.count p.0 e.desks e.numbers carried e.stamps ≡ find mark_id a (executed_in e)
+    at_first = found-place e l a p fa carried e.stamps
 
-  pub relate_no_second : places ≤ q → relate (queried_state count ds ns ss own bs waiting) a b ≡ refused 12
-  relate_no_second h = let f = l.few in no_second width count ds ns bs ss own waiting a b p q at_first at_second (omega arith)
+    at_second : place_at width e.count q.0 e.desks e.numbers carried e.stamps ≡ find mark_id b (executed_in e)
+    at_second = found-place e l b q fb carried e.stamps
 
-  module _ (h : p < places) (k : q < places) where
-    inside : (p < count) × (q < count)
-    inside = (found_inside count ds ns ts ls bf l a p fa h, found_inside count ds ns ts ls bf l b q fb k)
+    inside : (p.0 < e.count) × (q.0 < e.count)
+    inside = (found_inside e l a p fa, found_inside e l b q fb)
 
-    pub relate-same : p ≡ q → relate (queried_state count ds ns ss own bs waiting) a b ≡ gives Same
-    relate-same = same_place width count ds ns bs ss own waiting a b p q at_first at_second inside.0 inside.1
+    pub relate-same : p.0 ≡ q.0 → relate (queried_state e own waiting) a b ≡ gives Same
+    relate-same = same_place width e.count e.desks e.numbers carried e.stamps own waiting a b p.0 q.0 at_first at_second inside.0 inside.1
 
     -- r says whether the earlier mark precedes the later one, and is u.
-    module _ (s : CausallyOrdered (view width count ds ns bs ss)) (r u : Bool) (v : r ≡ u) where
-      pub relate_forward : p < q → PrecedesAt ds ns ss p q r → relate (queried_state count ds ns ss own bs waiting) a b ≡ gives (elim u [ true ↦ Before | false ↦ Concurrent ])
-      relate_forward o e = forward width count ds ns bs ss own waiting a b p q at_first at_second inside.0 inside.1 s o u (sym v ∙ e count bs inside.1 s)
+    module _ (s : CausallyOrdered (executed_in e)) (r u : Bool) (v : r ≡ u) where
+      pub relate_forward : p.0 < q.0 → PrecedesAt e p.0 q.0 r → relate (queried_state e own waiting) a b ≡ gives (elim u [ true ↦ Before | false ↦ Concurrent ])
+      relate_forward o w =
+          forward width e.count e.desks e.numbers carried e.stamps own waiting a b p.0 q.0 at_first at_second inside.0 inside.1 s o u (sym v ∙ w e.count inside.1 s)
 
-      pub relate_back : q < p → PrecedesAt ds ns ss q p r → relate (queried_state count ds ns ss own bs waiting) a b ≡ gives (elim u [ true ↦ After | false ↦ Concurrent ])
-      relate_back o e = back width count ds ns bs ss own waiting a b p q at_first at_second inside.0 inside.1 s o u (sym v ∙ e count bs inside.0 s)
+      pub relate_back : q.0 < p.0 → PrecedesAt e q.0 p.0 r → relate (queried_state e own waiting) a b ≡ gives (elim u [ true ↦ After | false ↦ Concurrent ])
+      relate_back o w =
+          back width e.count e.desks e.numbers carried e.stamps own waiting a b p.0 q.0 at_first at_second inside.0 inside.1 s o u (sym v ∙ w e.count inside.0 s)

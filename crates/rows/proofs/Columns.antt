@@ -3,19 +3,18 @@ use Prim.Native.Nat.{◌<◌, ◌≤◌, suc, zero, ℕ}
 use lib.Dec.{T, T_not, eqb, eqb_refl, eqb→eq, ltb, ltb→lt, nltb→le}
 use lib.ListN.{get_or, length}
 use lib.Seq.{ext_get_or}
-use mathlib.Core.List.{List, [], ◌∷◌}
+use mathlib.Core.List.{List, []}
 use mathlib.Core.Logic.{inl, inr, ⊎_elim}
 use mathlib.Core.Path.{◌∙◌, ◌≡◌, ap, refl, subst, sym}
 use native.Mathlib.Nat.{eq-or-lt_of_le}
 use native.Mathlib.Numerals.{sub-one}
 use native.Mathlib.Omega.{arith}
-use Rattle.frame.specs.Names.{MarkId}
 use Rattle.frame.specs.declared.MarkBox.{MarkBox}
 use Rattle.causality.specs.State.{Mark}
 use Rattle.causality.specs.inner.Passes.{row_of}
 use Rattle.causality.proofs.Logic.{T→eq, nT→eq, split}
 use Rattle.causality.proofs.RowLaws.{row_of-entries}
-use Rattle.rows.specs.Columns.{boxes_of, counts_of, desks_of, numbers_of, past_code, pasts_of, slot, stamps_of, tabled}
+use Rattle.rows.specs.inner.Columns.{boxes_of, counts_of, desks_of, numbers_of, past_code, pasts_of, slot, stamps_of, tabled}
 use Rattle.rows.specs.View.{carried_at, down_from, mark_at, no_box, past_from, row_at, view, width}
 use Rattle.rows.specs.inner.Slots.{Slots}
 use Rattle.rows.proofs.Down.{down-length}

@@ -4,7 +4,7 @@ use Rattle.causality.specs.Marks.{waiting_places}
 use Rattle.rows.specs.View.{carried_at, width}
 use Rattle.rows.proofs.Arrays.{view-length}
 use Rattle.rows.proofs.Columns.{boxes-back, desks-back, numbers-back, pasts-back, stamps-back}
-use Rattle.waiting.specs.Columns.{waiting_of}
+use Rattle.waiting.specs.inner.Columns.{waiting_of}
 use Rattle.waiting.specs.Queue.{waiting_in}
 use Rattle.waiting.specs.declared.Waiting.{Waiting}
 use Rattle.waiting.specs.inner.Steps.{Queued}

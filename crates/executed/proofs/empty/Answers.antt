@@ -1,7 +1,6 @@
 -- Of no marks all that is kept is zero.
 use Prim.Native.Nat.{ℕ}
 use lib.ListN.{length-replicate}
-use mathlib.Core.Path.{refl}
 use Rattle.causality.specs.Marks.{places}
 use Rattle.causality.specs.State.{heads}
 use Rattle.rows.specs.View.{view, width}

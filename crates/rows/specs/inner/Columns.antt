@@ -1,4 +1,4 @@
--- The columns of marks, newest first: what stands at each of n places. Need not be believed: that columns are those of their marks is proved.
+-- The columns of marks, newest first: what stands at each of n places. That columns are those of their marks is proved. Inner: need not be believed.
 use Rattle.std.specs.Prelude.{true, false, List, [], ◌∷◌, ℕ, zero, suc, eqb, length}
 use Rattle.frame.specs.Names.{MarkId}
 use Rattle.frame.specs.declared.MarkBox.{MarkBox}

@@ -1,9 +1,9 @@
--- The struct of executed marks, newest first. Need not be believed: that a desk's struct is that of its marks is proved.
+-- The struct of executed marks, newest first. That a desk's struct is that of its marks is proved. Inner: need not be believed.
 use Rattle.std.specs.Prelude.{true, false, List, [], ◌∷◌, ℕ, suc, eqb, length}
 use Rattle.frame.specs.Names.{MarkId}
 use Rattle.causality.specs.Marks.{places, tally}
 use Rattle.causality.specs.State.{Mark, heads, ids}
-use Rattle.rows.specs.Columns.{boxes_of, counts_of, desks_of, numbers_of, pasts_of, stamps_of, tabled}
+use Rattle.rows.specs.inner.Columns.{boxes_of, counts_of, desks_of, numbers_of, pasts_of, stamps_of, tabled}
 use Rattle.rows.specs.View.{width}
 use Rattle.rows.specs.declared.Executed.{Executed}
 use Rattle.executed.specs.inner.Rows.{last_in}
