@@ -17,13 +17,7 @@ fn named(desk: u8, number: u16) -> MarkId
 
 /// Relate.
 #[unsafe(no_mangle)]
-pub extern "C" fn kaungimewe_relate_lent(
-    desk: &Desk,
-    a: u8,
-    n: u16,
-    b: u8,
-    m: u16,
-) -> RelateNumbers
+pub extern "C" fn kaungimewe_relate_lent(desk: &Desk, a: u8, n: u16, b: u8, m: u16) -> RelateNumbers
     ensures { RelateExport desk.now (mark_id a n) (mark_id b m) result }
 {
     desk.relate_in_place(named(a, n), named(b, m)).into()

@@ -17,7 +17,7 @@ use Rattle.rows.proofs.Places.{has-at, not_before, precedes_there}
 use Rattle.concurrent.specs.inner.Steps.{is_or_follows}
 
 -- Two places have one name only if they are one.
-pub same_place : (n : ℕ) (ds ns : List ℕ) (bs : ℕ → Carried) (ss : List ℕ) (count p q : ℕ) → CausallyOrdered (view n count ds ns bs ss) → p < count → q < count
+pub same_place : (n : ℕ) (ds ns : List ℕ) (bs : ℕ → Carried) (ss : List (List ℕ)) (count p q : ℕ) → CausallyOrdered (view n count ds ns bs ss) → p < count → q < count
     → eqb p q ≡ same (name_at ds ns p) (name_at ds ns q)
 same_place n ds ns bs ss count p q s h l = elim (split (eqb p q)) [
   | inl t ↦ T→eq (eqb p q) t ∙ sym (T→eq (same (name_at ds ns p) (name_at ds ns q)) (subst (λ (x : ℕ). T (same (name_at ds ns p) (name_at ds ns x))) (eqb-true p q (T→eq (eqb p q) t)) (same_refl (name_at ds ns p))))
@@ -29,7 +29,7 @@ same_place n ds ns bs ss count p q s h l = elim (split (eqb p q)) [
 ]
 
 -- What is or follows a mark among the first q is so among all.
-pub follows_there : (n : ℕ) (ds ns : List ℕ) (bs : ℕ → Carried) (ss : List ℕ) (count : ℕ) → CausallyOrdered (view n count ds ns bs ss) → (q r : ℕ) → q ≤ count → r < q → (a : MarkId)
+pub follows_there : (n : ℕ) (ds ns : List ℕ) (bs : ℕ → Carried) (ss : List (List ℕ)) (count : ℕ) → CausallyOrdered (view n count ds ns bs ss) → (q r : ℕ) → q ≤ count → r < q → (a : MarkId)
     → is_or_follows (view n q ds ns bs ss) a (name_at ds ns r) ≡ is_or_follows (view n count ds ns bs ss) a (name_at ds ns r)
 follows_there n ds ns bs ss count s q r h k a = ap (λ (b : Bool). same a (name_at ds ns r) || b)
     (precedes_there n ds ns bs ss q r (sound_below n count ds ns bs ss s q h) k a ∙ sym (precedes_there n ds ns bs ss count r s (omega arith) a))

@@ -5,4 +5,4 @@ use Rattle.rows.proofs.RowSteps.{named-at, named-less}
 
 pub ruleset for_counts = (named-at, named-less)
 
-pub ruleset for_shown = (longer-kept, longer-new, longer_spare, names_reversed)
+pub ruleset for_reversed = (longer-kept, longer-new, longer_spare, names_reversed)

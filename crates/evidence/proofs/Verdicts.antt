@@ -2,7 +2,7 @@
 use Prim.Native.Nat.{ℕ, ◌<◌, ◌≤◌}
 use borrow.Author.Tests.{eq-eqb, le-ltb, lt-ltb, ne_eqb}
 use mathlib.Core.Path.{◌≡◌}
-use Rattle.causality.specs.declared.EvidenceAnswer.TheVariants.{Same, Before, After}
+use Rattle.causality.specs.declared.Evidence.TheVariants.{Same, Before, After}
 use Rattle.evidence.specs.inner.Steps.{verdict_at}
 
 pub verdict-same : (p q n : ℕ) → p ≡ q → verdict_at p q n ≡ Same n

@@ -8,6 +8,7 @@ use mathlib.Core.List.{List, reverse, reverse-reverse}
 use mathlib.Core.Logic.{◌⊎◌, inl, inr}
 use mathlib.Core.Path.{◌∙◌, ◌≡◌, ap, refl, subst, sym}
 use native.Mathlib.Omega.{arith}
+use Rattle.std.specs.Prelude.{Err, None, Ok, Some}
 use Rattle.frame.specs.Answer.{Answer, gives, refuse_if, refused}
 use Rattle.frame.specs.Names.{MarkId}
 use Rattle.frame.specs.declared.Refusal.TheVariants.{NotExecuted, OutputShort}
@@ -15,29 +16,31 @@ use Rattle.causality.specs.Answers.{Evidence, Relation, Same, Before, After, Con
 use Rattle.causality.specs.Calls.{and_then, relate}
 use Rattle.causality.specs.Evidence.{behind, chain, chain_for, chain_if, evidence, evidence_chain, going_back, in_past}
 use Rattle.causality.specs.Marks.{places, same}
-use Rattle.causality.specs.Meaning.{proving}
+use Rattle.causality.specs.Meaning.{proved}
 use Rattle.causality.specs.State.{Mark, State, precedes}
-use Rattle.causality.specs.declared.EvidenceAnswer.TheVariants.{Refused}
+use Rattle.causality.specs.declared.Evidence.{Evidence as Found}
+use Rattle.causality.specs.declared.Place.{Place}
 use Rattle.causality.proofs.EvidenceLaws.{counts_below}
 use Rattle.causality.proofs.Logic.{or_inl, same_refl, split}
 use Rattle.causality.specs.inner.Order.{CausallyOrdered}
 use Rattle.executed.specs.inner.Rows.{Finds, Lent}
 use Rattle.executed.proofs.Chain.{found_inside, found-place}
-use Rattle.pairs.specs.Pairs.{ListsIf, Spare, marks_of}
+use Rattle.pairs.specs.Pairs.{Spare, marks_of}
 use Rattle.pairs.specs.declared.Listed.{Listed}
 use Rattle.pairs.proofs.Filled.{length-marks_of}
 use Rattle.queries.specs.inner.Lent.{queried_state}
 use Rattle.queries.specs.inner.Steps.{PrecedesAt}
 use Rattle.queries.proofs.MadeBefore.{counted-less}
 use Rattle.queries.proofs.Relating.{relate_back, relate_forward, relate_no_first, relate_no_second, relate-same}
-use Rattle.rows.specs.View.{Carried, name_at, names_down, view, width}
+use Rattle.rows.specs.declared.Executed.{Executed}
+use Rattle.rows.specs.Executed.{executed_in, marks_to}
+use Rattle.rows.specs.View.{carried_at, names_down, width}
 use Rattle.rows.proofs.Places.{found_some, has-at, ids-names}
 use Rattle.rows.proofs.RowSteps.{named-less}
 use Rattle.concurrent.specs.inner.Steps.{Tells, is_or_follows}
 use Rattle.concurrent.proofs.ByPlaces.{same_place}
 use Rattle.evidence.specs.Found.{EvidenceFound}
-use Rattle.evidence.specs.inner.Steps.{CountsOf, GoneBack, HasMark, Reversed, counted_before, verdict_at}
-use Rattle.evidence.specs.declared.EvidenceList.{EvidenceList}
+use Rattle.evidence.specs.inner.Steps.{CountsOf, GoneBack, HasMark, Reversed, counted_before, name, verdict_at}
 use Rattle.evidence.proofs.Verdicts.{verdict_after, verdict_before, verdict-same}
 
 -- BY THE VERDICT
@@ -54,203 +57,201 @@ module _ (st : State) (a b : MarkId) (room : ℕ) where
   unfolding evidence_chain
   chain_as x e = ap (chain_if st.executed a b) e
 
-  -- A refusal lists no mark.
-  refuses : (c : ℕ) (r : EvidenceList) → evidence st a b room ≡ refused c → proving r.answer ≡ refused c → r.list.count ≡ 0 → Spare r.list → EvidenceFound st a b room r
-  refuses c r e h none spare = record {
-    answer = h ∙ sym e;
-    few = omega arith;
-    few_places = omega arith;
-    marks = subst (λ (z : Answer Evidence). ListsIf z (evidence_chain st a b) r.list) (sym e) none;
-    spare = spare;
-  }
-
-  pub not-executed : relate st a b ≡ refused 12 → (r : EvidenceList) → r.answer ≡ Refused NotExecuted → r.list.count ≡ 0 → Spare r.list → EvidenceFound st a b room r
-  not-executed e r h = refuses 12 r (answer_as (refused 12) e) (ap proving h)
+  pub not-executed : relate st a b ≡ refused 12 → EvidenceFound st a b room (Err NotExecuted)
+  not-executed e = record { answer = sym (answer_as (refused 12) e); list = tt }
 
   module _ (v : Relation) (e : relate st a b ≡ gives v) where
-    pub too_short : room < length (chain_for st.executed a b v) → (r : EvidenceList) → r.answer ≡ Refused OutputShort → r.list.count ≡ 0 → Spare r.list → EvidenceFound st a b room r
-    too_short h r q = refuses 13 r (answer_as (gives v) e ∙ ap (λ (t : Bool). refuse_if t 13 (gives (behind st.executed a b v))) (lt-ltb room (length (chain_for st.executed a b v)) h)) (ap proving q)
+    by_room : (t : Bool) → ltb room (length (chain_for st.executed a b v)) ≡ t → evidence st a b room ≡ refuse_if t 13 (gives (behind st.executed a b v))
+    by_room t u = answer_as (gives v) e ∙ ap (λ (t : Bool). refuse_if t 13 (gives (behind st.executed a b v))) u
 
-    pub shown : (r : EvidenceList) → proving r.answer ≡ gives (behind st.executed a b v) → marks_of r.list ≡ chain_for st.executed a b v
-        → r.list.count ≤ room → r.list.count ≤ places → Spare r.list → EvidenceFound st a b room r
-    shown r h names few few_places spare =
-        let n = sym (length-marks_of r.list) ∙ ap length names in
-        let x = answer_as (gives v) e ∙ ap (λ (t : Bool). refuse_if t 13 (gives (behind st.executed a b v))) (le-ltb room (length (chain_for st.executed a b v)) (omega arith)) in
+    pub too_short : room < length (chain_for st.executed a b v) → EvidenceFound st a b room (Err OutputShort)
+    too_short h = record { answer = sym (by_room true (lt-ltb room (length (chain_for st.executed a b v)) h)); list = tt }
+
+    pub shown : (r : Found) (list : Listed) → proved r ≡ behind st.executed a b v → marks_of list ≡ chain_for st.executed a b v
+        → list.count ≤ room → list.count ≤ places → Spare list → EvidenceFound st a b room (Ok (r, list))
+    shown r list h names few few_places spare =
+        let n = sym (length-marks_of list) ∙ ap length names in
         record {
-          answer = h ∙ sym x;
-          few = few;
-          few_places = few_places;
-          marks = subst (λ (z : Answer Evidence). ListsIf z (evidence_chain st a b) r.list) (sym x) (names ∙ sym (chain_as (gives v) e));
-          spare = spare;
+          answer = ap gives h ∙ sym (by_room false (le-ltb room (length (chain_for st.executed a b v)) (omega arith)));
+          list = record { few = few; few_places = few_places; marks = names ∙ sym (chain_as (gives v) e); spare = spare };
         }
 
 -- BY PLACES
 
 -- A chain that was gone back, of a mark at q that is that at p or follows it.
-module _ (ds ns ss : List ℕ) (p q : ℕ) (list : Listed) (g : GoneBack width ds ns ss p q list) (count : ℕ) (h : q < count) (bs : ℕ → Carried) (s : CausallyOrdered (view width count ds ns bs ss))
-    (t : T (is_or_follows (view width count ds ns bs ss) (name_at ds ns p) (name_at ds ns q))) where
+module _ (executed : Executed) (p q : ℕ) (list : Listed) (g : GoneBack executed p q list) (count : ℕ) (h : q < count) (s : CausallyOrdered (marks_to count executed))
+    (t : T (is_or_follows (marks_to count executed) (name executed p) (name executed q))) where
   abbrev back : List MarkId
-  back = going_back (view width count ds ns bs ss) (name_at ds ns p) (name_at ds ns q)
+  back = going_back (marks_to count executed) (name executed p) (name executed q)
 
   -- In the other order its marks are the chain.
-  names_back : (r : Listed) → Reversed list r → marks_of r ≡ chain (view width count ds ns bs ss) (name_at ds ns p) (name_at ds ns q)
+  names_back : (r : Listed) → Reversed list r → marks_of r ≡ chain (marks_to count executed) (name executed p) (name executed q)
   unfolding marks_of chain
-  names_back r v = ap reverse (v.names ∙ ap reverse (g.names count h bs s t) ∙ reverse-reverse back)
+  names_back r v = ap reverse (v.names ∙ ap reverse (g.names count h s t) ∙ reverse-reverse back)
 
-  long_back : list.count ≡ length (chain (view width count ds ns bs ss) (name_at ds ns p) (name_at ds ns q))
+  long_back : list.count ≡ length (chain (marks_to count executed) (name executed p) (name executed q))
   unfolding marks_of chain
-  long_back = sym (length-marks_of list) ∙ ap (λ (x : List MarkId). length (reverse x)) (g.names count h bs s t) ∙ length-reverse (reverse back)
+  long_back = sym (length-marks_of list) ∙ ap (λ (x : List MarkId). length (reverse x)) (g.names count h s t) ∙ length-reverse (reverse back)
 
 -- r says whether the mark at place q is that at place p or follows it, however many marks there are.
-abbrev pub FollowsAt : List ℕ → List ℕ → List ℕ → ℕ → ℕ → Bool → Type 0
-FollowsAt ds ns ss p q r = (count : ℕ) (bs : ℕ → Carried) → q < count → CausallyOrdered (view width count ds ns bs ss)
-    → r ≡ is_or_follows (view width count ds ns bs ss) (name_at ds ns p) (name_at ds ns q)
+abbrev pub FollowsAt : Executed → ℕ → ℕ → Bool → Type 0
+FollowsAt executed p q r = (count : ℕ) → q < count → CausallyOrdered (marks_to count executed)
+    → r ≡ is_or_follows (marks_to count executed) (name executed p) (name executed q)
 
-module _ (ds ns ss : List ℕ) (p q : ℕ) where
+module _ (executed : Executed) (p q : ℕ) where
   -- By the row that tells of it and of the marks before it.
-  pub follows-told : p ≤ q → (first : List ℕ) → Tells width ds ns ss p (q + 1) first → FollowsAt ds ns ss p q (ltb 0 (get_or first (get_or ds q 0 - 1) 0) && leb (get_or first (get_or ds q 0 - 1) 0) (get_or ns q 0))
-  follows-told o first w count bs h s =
-      sym (w.tells count (omega arith) (omega arith) bs s (name_at ds ns q) (rw (← ids-names width ds ns bs ss (q + 1)) (has-at width ds ns bs ss (q + 1) q (omega arith))))
+  pub follows-told : p ≤ q → (first : List ℕ) → Tells executed p (q + 1) first → FollowsAt executed p q (ltb 0 (get_or first (get_or executed.desks q 0 - 1) 0) && leb (get_or first (get_or executed.desks q 0 - 1) 0) (get_or executed.numbers q 0))
+  follows-told o first w count h s =
+      sym (w.tells count (omega arith) (omega arith) s (name executed q) (rw (← ids-names width executed.desks executed.numbers (carried_at executed.boxes executed.pasts) executed.stamps (q + 1)) (has-at width executed.desks executed.numbers (carried_at executed.boxes executed.pasts) executed.stamps (q + 1) q (omega arith))))
 
   -- At two places are two marks.
-  precedes-at-places : p < q → (r : Bool) → FollowsAt ds ns ss p q r → PrecedesAt ds ns ss p q r
-  precedes-at-places o r f count bs h s =
-      f count bs h s ∙ ap (λ (b : Bool). b || precedes (view width count ds ns bs ss) (name_at ds ns p) (name_at ds ns q)) (sym (same_place width ds ns bs ss count p q s (omega arith) h) ∙ ne_eqb p q (λ e. omega arith))
+  precedes-at-places : p < q → (r : Bool) → FollowsAt executed p q r → PrecedesAt executed p q r
+  precedes-at-places o r f count h s =
+      f count h s ∙ ap (λ (b : Bool). b || precedes (marks_to count executed) (name executed p) (name executed q)) (sym (same_place width executed.desks executed.numbers (carried_at executed.boxes executed.pasts) executed.stamps count p q s (omega arith) h) ∙ ne_eqb p q (λ e. omega arith))
 
--- LENT ARRAYS
+-- EXECUTED MARKS THAT ARE LENT
 
-pub has-mark : (count : ℕ) (ds ns ts ls bf : List ℕ) → Lent count ds ns ts ls bf → (p : ℕ) → p < count → HasMark width ds ns p
-has-mark count ds ns ts ls bf l p h =
+pub has-mark : (executed : Executed) → Lent executed → (p : ℕ) → p < executed.count → HasMark executed p
+has-mark executed l p h =
     let f = l.few in
-    let e = (counted-less ds ns count (suc p) (omega arith) l.chain.counted).0 in
-    record { within = omega arith; named = named-less width count ds (suc p) l.named (omega arith); made = omega arith }
+    let e = (counted-less executed.desks executed.numbers executed.count (suc p) (omega arith) l.chain.counted).0 in
+    record { within = omega arith; named = named-less width executed.count executed.desks (suc p) l.named (omega arith); made = omega arith }
 
-module _ (count : ℕ) (ds ns ss ts ls bf : List ℕ) (l : Lent count ds ns ts ls bf) (own : ℕ) (bs : ℕ → Carried) (waiting : List Mark)
-    (a b : MarkId) (p q : ℕ) (fa : Finds ts ls bf a p) (fb : Finds ts ls bf b q) (room : ℕ) where
+module _ (executed : Executed) (l : Lent executed) (own : ℕ) (waiting : List Mark) (a b : MarkId) (room : ℕ) where
   abbrev state : State
-  state = queried_state count ds ns ss own bs waiting
+  state = queried_state executed own waiting
 
-  pub evidence_no_first : places ≤ p → (r : EvidenceList) → r.answer ≡ Refused NotExecuted → r.list.count ≡ 0 → Spare r.list → EvidenceFound (queried_state count ds ns ss own bs waiting) a b room r
-  evidence_no_first h = not-executed state a b room (relate_no_first count ds ns ss ts ls bf l own bs waiting a b p q fa fb h)
+  pub evidence_no_first : Finds executed a None → EvidenceFound (queried_state executed own waiting) a b room (Err NotExecuted)
+  evidence_no_first f = not-executed state a b room (relate_no_first executed l own waiting a b f)
 
-  pub evidence_no_second : places ≤ q → (r : EvidenceList) → r.answer ≡ Refused NotExecuted → r.list.count ≡ 0 → Spare r.list → EvidenceFound (queried_state count ds ns ss own bs waiting) a b room r
-  evidence_no_second h = not-executed state a b room (relate_no_second count ds ns ss ts ls bf l own bs waiting a b p q fa fb h)
+  pub evidence_no_second : Finds executed b None → EvidenceFound (queried_state executed own waiting) a b room (Err NotExecuted)
+  evidence_no_second f = not-executed state a b room (relate_no_second executed l own waiting a b f)
 
-  module _ (h : p < places) (k : q < places) (s : CausallyOrdered (view width count ds ns bs ss)) where
+  module _ (p q : Place) (fa : Finds executed a (Some p)) (fb : Finds executed b (Some q)) (s : CausallyOrdered (executed_in executed)) where
     abbrev marks : List Mark
-    marks = view width count ds ns bs ss
+    marks = executed_in executed
 
-    first_in : p < count
-    first_in = found_inside count ds ns ts ls bf l a p fa h
+    first_in : p.0 < executed.count
+    first_in = found_inside executed l a p fa
 
-    second_in : q < count
-    second_in = found_inside count ds ns ts ls bf l b q fb k
+    second_in : q.0 < executed.count
+    second_in = found_inside executed l b q fb
 
-    first-name : name_at ds ns p ≡ a
-    first-name = (found_some width ds ns bs ss count p a first_in (found-place count ds ns ts ls bf l a p fa bs ss)).1
+    -- The mark found has the name that it was found by.
+    named : (i : MarkId) (r : Place) → Finds executed i (Some r) → name executed r.0 ≡ i
+    named i r f =
+        let bs = carried_at executed.boxes executed.pasts in
+        (found_some width executed.desks executed.numbers bs executed.stamps executed.count r.0 i (found_inside executed l i r f) (found-place executed l i r f bs executed.stamps)).1
 
-    second-name : name_at ds ns q ≡ b
-    second-name = (found_some width ds ns bs ss count q b second_in (found-place count ds ns ts ls bf l b q fb bs ss)).1
+    first-name : name executed p.0 ≡ a
+    first-name = named a p fa
+
+    second-name : name executed q.0 ≡ b
+    second-name = named b q fb
 
     -- Which of the two places is the lower.
-    order : (p ≡ q) ⊎ ((p < q) ⊎ (q < p))
-    order = elim (split (ltb p q)) [
-      | inl t ↦ inr (inl (ltb→lt p q t))
-      | inr t ↦ let u = nltb→le p q t in elim (split (ltb q p)) [ inl v ↦ inr (inr (ltb→lt q p v)) | inr v ↦ let x = nltb→le q p v in inl (omega arith) ]
+    order : (p.0 ≡ q.0) ⊎ ((p.0 < q.0) ⊎ (q.0 < p.0))
+    order = elim (split (ltb p.0 q.0)) [
+      | inl t ↦ inr (inl (ltb→lt p.0 q.0 t))
+      | inr t ↦ let u = nltb→le p.0 q.0 t in elim (split (ltb q.0 p.0)) [ inl v ↦ inr (inr (ltb→lt q.0 p.0 v)) | inr v ↦ let x = nltb→le q.0 p.0 v in inl (omega arith) ]
     ]
 
     -- There is a chain: in the other order it is that of the verdict that comes with it.
     record Chained (list : Listed) : Type 0 where
       verdict : Relation
-      related : relate (queried_state count ds ns ss own bs waiting) a b ≡ gives verdict
-      names : (r : Listed) → Reversed list r → marks_of r ≡ chain_for (view width count ds ns bs ss) a b verdict
-      long : list.count ≡ length (chain_for (view width count ds ns bs ss) a b verdict)
-      answer : proving (verdict_at p q list.count) ≡ gives (behind (view width count ds ns bs ss) a b verdict)
+      related : relate (queried_state executed own waiting) a b ≡ gives verdict
+      names : (r : Listed) → Reversed list r → marks_of r ≡ chain_for (executed_in executed) a b verdict
+      long : list.count ≡ length (chain_for (executed_in executed) a b verdict)
+      answer : proved (verdict_at p.0 q.0 list.count) ≡ behind (executed_in executed) a b verdict
 
     -- The chain from place i to place j, of these names.
-    module _ (i j : ℕ) (jc : j < count) (list : Listed) (g : GoneBack width ds ns ss i j list) (t : T (is_or_follows (view width count ds ns bs ss) (name_at ds ns i) (name_at ds ns j)))
-        (x y : MarkId) (ex : name_at ds ns i ≡ x) (ey : name_at ds ns j ≡ y) where
-      names_as : (r : Listed) → Reversed list r → marks_of r ≡ chain (view width count ds ns bs ss) x y
-      names_as r v = names_back ds ns ss i j list g count jc bs s t r v ∙ (λ k. chain marks (ex k) (ey k))
+    module _ (i j : ℕ) (jc : j < executed.count) (list : Listed) (g : GoneBack executed i j list) (t : T (is_or_follows (executed_in executed) (name executed i) (name executed j)))
+        (x y : MarkId) (ex : name executed i ≡ x) (ey : name executed j ≡ y) where
+      names_as : (r : Listed) → Reversed list r → marks_of r ≡ chain (executed_in executed) x y
+      names_as r v = names_back executed i j list g executed.count jc s t r v ∙ (λ k. chain marks (ex k) (ey k))
 
-      long_as : list.count ≡ length (chain (view width count ds ns bs ss) x y)
-      long_as = long_back ds ns ss i j list g count jc bs s t ∙ (λ k. length (chain marks (ex k) (ey k)))
+      long_as : list.count ≡ length (chain (executed_in executed) x y)
+      long_as = long_back executed i j list g executed.count jc s t ∙ (λ k. length (chain marks (ex k) (ey k)))
 
-    follows : (i j : ℕ) → j < count → FollowsAt ds ns ss i j true → T (is_or_follows (view width count ds ns bs ss) (name_at ds ns i) (name_at ds ns j))
-    follows i j jc f = rw (← f count bs jc s) tt
+    follows : (i j : ℕ) → j < executed.count → FollowsAt executed i j true → T (is_or_follows (executed_in executed) (name executed i) (name executed j))
+    follows i j jc f = rw (← f executed.count jc s) tt
 
-    module _ (from to : ℕ) (ef : from ≡ min p q) (et : to ≡ max p q) where
-      chained : FollowsAt ds ns ss from to true → (list : Listed) → GoneBack width ds ns ss from to list → Chained list
+    module _ (from to : ℕ) (ef : from ≡ min p.0 q.0) (et : to ≡ max p.0 q.0) where
+      chained : FollowsAt executed from to true → (list : Listed) → GoneBack executed from to list → Chained list
       chained c list g = go order
         where
-          at : (i j : ℕ) → from ≡ i → to ≡ j → GoneBack width ds ns ss i j list × FollowsAt ds ns ss i j true
+          at : (i j : ℕ) → from ≡ i → to ≡ j → GoneBack executed i j list × FollowsAt executed i j true
           at i j e f =
-              subst (λ (x : ℕ). GoneBack width ds ns ss x j list × FollowsAt ds ns ss x j true) e (subst (λ (y : ℕ). GoneBack width ds ns ss from y list × FollowsAt ds ns ss from y true) f (g, c))
+              subst (λ (x : ℕ). GoneBack executed x j list × FollowsAt executed x j true) e (subst (λ (y : ℕ). GoneBack executed from y list × FollowsAt executed from y true) f (g, c))
 
-          go : (p ≡ q) ⊎ ((p < q) ⊎ (q < p)) → Chained list
+          go : (p.0 ≡ q.0) ⊎ ((p.0 < q.0) ⊎ (q.0 < p.0)) → Chained list
           go (inl e) =
-              let w = at p q (omega arith) (omega arith) in
-              let t = follows p q second_in w.1 in
-              let long = long_as p q second_in list w.0 t a b first-name second-name in
+              let w = at p.0 q.0 (omega arith) (omega arith) in
+              let t = follows p.0 q.0 second_in w.1 in
+              let long = long_as p.0 q.0 second_in list w.0 t a b first-name second-name in
               record {
                 verdict = Same;
-                related = relate-same count ds ns ss ts ls bf l own bs waiting a b p q fa fb h k e;
-                names = names_as p q second_in list w.0 t a b first-name second-name;
+                related = relate-same executed l own waiting a b p q fa fb e;
+                names = names_as p.0 q.0 second_in list w.0 t a b first-name second-name;
                 long = long;
-                answer = ap proving (verdict-same p q list.count e) ∙ ap (λ (n : ℕ). gives (Same n)) long;
+                answer = rw (verdict-same p.0 q.0 list.count e) (ap Same long);
               }
           go (inr (inl e)) =
-              let w = at p q (omega arith) (omega arith) in
-              let t = follows p q second_in w.1 in
-              let long = long_as p q second_in list w.0 t a b first-name second-name in
+              let w = at p.0 q.0 (omega arith) (omega arith) in
+              let t = follows p.0 q.0 second_in w.1 in
+              let long = long_as p.0 q.0 second_in list w.0 t a b first-name second-name in
               record {
                 verdict = Before;
-                related = relate_forward count ds ns ss ts ls bf l own bs waiting a b p q fa fb h k s true true refl e (precedes-at-places ds ns ss p q e true w.1);
-                names = names_as p q second_in list w.0 t a b first-name second-name;
+                related = relate_forward executed l own waiting a b p q fa fb s true true refl e (precedes-at-places executed p.0 q.0 e true w.1);
+                names = names_as p.0 q.0 second_in list w.0 t a b first-name second-name;
                 long = long;
-                answer = ap proving (verdict_before p q list.count (λ z. omega arith) e) ∙ ap (λ (n : ℕ). gives (Before n)) long;
+                answer = rw (verdict_before p.0 q.0 list.count (λ z. omega arith) e) (ap Before long);
               }
           go (inr (inr e)) =
-              let w = at q p (omega arith) (omega arith) in
-              let t = follows q p first_in w.1 in
-              let long = long_as q p first_in list w.0 t b a second-name first-name in
+              let w = at q.0 p.0 (omega arith) (omega arith) in
+              let t = follows q.0 p.0 first_in w.1 in
+              let long = long_as q.0 p.0 first_in list w.0 t b a second-name first-name in
               record {
                 verdict = After;
-                related = relate_back count ds ns ss ts ls bf l own bs waiting a b p q fa fb h k s true true refl e (precedes-at-places ds ns ss q p e true w.1);
-                names = names_as q p first_in list w.0 t b a second-name first-name;
+                related = relate_back executed l own waiting a b p q fa fb s true true refl e (precedes-at-places executed q.0 p.0 e true w.1);
+                names = names_as q.0 p.0 first_in list w.0 t b a second-name first-name;
                 long = long;
-                answer = ap proving (verdict_after p q list.count (λ z. omega arith) (omega arith)) ∙ ap (λ (n : ℕ). gives (After n)) long;
+                answer = rw (verdict_after p.0 q.0 list.count (λ z. omega arith) (omega arith)) (ap After long);
               }
 
-      pub evidence_too_short : FollowsAt ds ns ss from to true → (list : Listed) → GoneBack width ds ns ss from to list → room < list.count
-          → (r : EvidenceList) → r.answer ≡ Refused OutputShort → r.list.count ≡ 0 → Spare r.list → EvidenceFound (queried_state count ds ns ss own bs waiting) a b room r
+      pub evidence_too_short : FollowsAt executed from to true → (list : Listed) → GoneBack executed from to list → room < list.count
+          → EvidenceFound (queried_state executed own waiting) a b room (Err OutputShort)
       evidence_too_short j list g short = let c = chained j list g in let n = c.long in too_short state a b room c.verdict c.related (omega arith)
 
-      pub evidence-shown : FollowsAt ds ns ss from to true → (list : Listed) → GoneBack width ds ns ss from to list → list.count ≤ room
-          → (r : EvidenceList) → r.answer ≡ verdict_at p q list.count → Reversed list r.list → EvidenceFound (queried_state count ds ns ss own bs waiting) a b room r
-      evidence-shown j list g enough r e v =
+      pub evidence-shown : FollowsAt executed from to true → (list : Listed) → GoneBack executed from to list → list.count ≤ room
+          → (r : Listed) → Reversed list r → EvidenceFound (queried_state executed own waiting) a b room (Ok (verdict_at p.0 q.0 list.count, r))
+      evidence-shown j list g enough r v =
           let c = chained j list g in
           let n = v.count in
           let f = g.few in
-          shown state a b room c.verdict c.related r (ap proving e ∙ c.answer) (c.names r.list v) (omega arith) (omega arith) v.spare
+          let x = first_in in
+          let y = second_in in
+          let z = l.few in
+          shown state a b room c.verdict c.related (verdict_at p.0 q.0 list.count) r c.answer (c.names r v) (omega arith) (omega arith) v.spare
 
-      -- There is no chain: the marks are concurrent, with these counts.
-      pub evidence-concurrent : FollowsAt ds ns ss from to false → (r : EvidenceList) → CountsOf width ds ns ss p q r.answer
-          → r.list.count ≡ 0 → Spare r.list → EvidenceFound (queried_state count ds ns ss own bs waiting) a b room r
+      -- There is no chain: the marks are concurrent, with these counts, and none is listed.
+      pub evidence-concurrent : FollowsAt executed from to false → (r : Found) → CountsOf executed p.0 q.0 r → (list : Listed) → list.count ≡ 0 → Spare list
+          → EvidenceFound (queried_state executed own waiting) a b room (Ok (r, list))
       unfolding marks_of
-      evidence-concurrent apart r v n =
-          shown state a b room Concurrent (go order) r (ap proving (v count first_in second_in bs s) ∙ (λ i. gives (Concurrent (first i) (second i)))) (ap (λ (c : ℕ). reverse (names_down c r.list.desks r.list.numbers)) n) (omega arith) (omega arith)
+      evidence-concurrent apart r v list n =
+          shown state a b room Concurrent (go order) r list (ap proved (v executed.count first_in second_in s) ∙ (λ i. Concurrent (first i) (second i)))
+          (ap (λ (c : ℕ). reverse (names_down c list.desks list.numbers)) n) (omega arith) (omega arith)
         where
-          at : (i j : ℕ) → from ≡ i → to ≡ j → FollowsAt ds ns ss i j false
-          at i j e f = subst (λ (x : ℕ). FollowsAt ds ns ss x j false) e (subst (λ (y : ℕ). FollowsAt ds ns ss from y false) f apart)
+          at : (i j : ℕ) → from ≡ i → to ≡ j → FollowsAt executed i j false
+          at i j e f = subst (λ (x : ℕ). FollowsAt executed x j false) e (subst (λ (y : ℕ). FollowsAt executed from y false) f apart)
 
-          go : (p ≡ q) ⊎ ((p < q) ⊎ (q < p)) → relate (queried_state count ds ns ss own bs waiting) a b ≡ gives Concurrent
-          go (inl z) = absurd (subst T (sym (at p p (omega arith) (omega arith) count bs first_in s)) (or_inl (same (name_at ds ns p) (name_at ds ns p)) (precedes marks (name_at ds ns p) (name_at ds ns p)) (same_refl (name_at ds ns p))))
-          go (inr (inl z)) = relate_forward count ds ns ss ts ls bf l own bs waiting a b p q fa fb h k s false false refl z (precedes-at-places ds ns ss p q z false (at p q (omega arith) (omega arith)))
-          go (inr (inr z)) = relate_back count ds ns ss ts ls bf l own bs waiting a b p q fa fb h k s false false refl z (precedes-at-places ds ns ss q p z false (at q p (omega arith) (omega arith)))
+          go : (p.0 ≡ q.0) ⊎ ((p.0 < q.0) ⊎ (q.0 < p.0)) → relate (queried_state executed own waiting) a b ≡ gives Concurrent
+          go (inl z) = absurd (subst T (sym (at p.0 p.0 (omega arith) (omega arith) executed.count first_in s)) (or_inl (same (name executed p.0) (name executed p.0)) (precedes marks (name executed p.0) (name executed p.0)) (same_refl (name executed p.0))))
+          go (inr (inl z)) = relate_forward executed l own waiting a b p q fa fb s false false refl z (precedes-at-places executed p.0 q.0 z false (at p.0 q.0 (omega arith) (omega arith)))
+          go (inr (inr z)) = relate_back executed l own waiting a b p q fa fb s false false refl z (precedes-at-places executed q.0 p.0 z false (at q.0 p.0 (omega arith) (omega arith)))
 
-          first : counted_before (view width count ds ns bs ss) ds ns p q ≡ in_past (view width count ds ns bs ss) a.desk b
+          first : counted_before (executed_in executed) executed p.0 q.0 ≡ in_past (executed_in executed) a.desk b
           first = (λ i. min ((first-name i).number - 1) (in_past marks (first-name i).desk (second-name i))) ∙ (let x = (counts_below state s a b (go order)).0 in omega arith)
 
-          second : counted_before (view width count ds ns bs ss) ds ns q p ≡ in_past (view width count ds ns bs ss) b.desk a
+          second : counted_before (executed_in executed) executed q.0 p.0 ≡ in_past (executed_in executed) b.desk a
           second = (λ i. min ((second-name i).number - 1) (in_past marks (second-name i).desk (first-name i))) ∙ (let x = (counts_below state s a b (go order)).1 in omega arith)

@@ -7,20 +7,23 @@ use mathlib.Core.Logic.{inl, inr}
 use mathlib.Core.Path.{◌∙◌, ◌≡◌, ap, refl, subst, sym}
 use native.Mathlib.Numerals.{add-one}
 use native.Mathlib.Omega.{arith}
+use Rattle.std.specs.Prelude.{None, Some}
 use Rattle.frame.specs.Answer.{gives, refuse_if, refused}
 use Rattle.frame.specs.Names.{MarkId, is_desk}
+use Rattle.causality.specs.declared.Place.{Place}
 use Rattle.causality.specs.Calls.{earlier, first_apart, lowest_number}
-use Rattle.causality.specs.Marks.{find, has, keep, places, same, tally}
-use Rattle.causality.specs.State.{Mark, State, concurrent, ids, mark_id}
+use Rattle.causality.specs.Marks.{has, keep, same, tally}
+use Rattle.causality.specs.State.{Mark, State, concurrent, ids}
 use Rattle.causality.proofs.Apart.{above_no, above-yes, lowest_above}
 use Rattle.causality.proofs.Logic.{T→eq, nT→eq, same_refl, same→eq, split}
 use Rattle.causality.specs.inner.Order.{CausallyOrdered}
 use Rattle.causality.proofs.Tail.{first_of_run}
 use Rattle.executed.specs.inner.Rows.{Finds, Lent}
-use Rattle.executed.proofs.Chain.{found_inside, found-place}
-use Rattle.rows.specs.View.{Carried, mark_at, view, width}
-use Rattle.rows.specs.inner.Slots.{place_at}
-use Rattle.rows.proofs.Places.{found_none, found_some, has-at, not_before}
+use Rattle.executed.proofs.Chain.{found-absent, found_inside, found-place}
+use Rattle.rows.specs.declared.Executed.{Executed}
+use Rattle.rows.specs.Executed.{executed_in, mark_in, marks_to}
+use Rattle.rows.specs.View.{Carried, carried_at, mark_at, view, width}
+use Rattle.rows.proofs.Places.{found_some, has-at, not_before}
 use Rattle.queries.specs.inner.Lent.{queried_state}
 use Rattle.queries.specs.inner.Steps.{MadeBefore}
 use Rattle.halving.specs.inner.Steps.{FirstRunAt}
@@ -35,7 +38,7 @@ answer_as N st a d x y v ex ey ev = λ i. refuse_if (not (ex i)) 1 (refuse_if (n
 pub first_no_desk : (N : ℕ) (st : State) (a : MarkId) (d : ℕ) → is_desk N d ≡ false → first_apart N st a d ≡ refused 1
 first_no_desk N st a d e = answer_as N st a d false _ _ e refl refl
 
-module _ (n : ℕ) (ds ns : List ℕ) (bs : ℕ → Carried) (ss : List ℕ) where
+module _ (n : ℕ) (ds ns : List ℕ) (bs : ℕ → Carried) (ss : List (List ℕ)) where
   -- The marks executed before that at place p.
   earlier-at : (count p : ℕ) → CausallyOrdered (view n count ds ns bs ss) → p < count → earlier (mark_at n ds ns bs ss p).id (ids (view n count ds ns bs ss)) ≡ ids (view n p ds ns bs ss)
   unfolding view
@@ -57,48 +60,36 @@ module _ (n : ℕ) (ds ns : List ℕ) (bs : ℕ → Carried) (ss : List ℕ) whe
       m : Mark
       m = mark_at n ds ns bs ss k
 
+-- EXECUTED MARKS THAT ARE LENT
+
+module _ (e : Executed) where
+  abbrev carried : ℕ → Carried
+  carried = carried_at e.boxes e.pasts
+
   -- Of a desk's marks before place p those with numbers up to R precede that at p: the lowest of the others.
-  first-at : (count p : ℕ) → CausallyOrdered (view n count ds ns bs ss) → p < count → (d R : ℕ) → FirstRunAt n ds ns ss p d (tally d (ids (view n p ds ns bs ss))) R
-      → lowest_number d (keep (concurrent (view n count ds ns bs ss) (mark_at n ds ns bs ss p).id) (earlier (mark_at n ds ns bs ss p).id (ids (view n count ds ns bs ss))))
-      ≡ lowest_above R (tally d (ids (view n p ds ns bs ss)))
-  first-at count p s h d R run =
-      let e = ap (tally d) (earlier-at count p s h) in
-      first_of_run (view n count ds ns bs ss) s (mark_at n ds ns bs ss p).id d R (λ k lo hi. run count bs h s k lo (rw e at hi)) ∙ ap (lowest_above R) e
+  first-at : (p : ℕ) → CausallyOrdered (executed_in e) → p < e.count → (d R : ℕ) → FirstRunAt e p d (tally d (ids (marks_to p e))) R
+      → lowest_number d (keep (concurrent (executed_in e) (mark_in e p).id) (earlier (mark_in e p).id (ids (executed_in e)))) ≡ lowest_above R (tally d (ids (marks_to p e)))
+  first-at p s h d R run =
+      let m = ap (tally d) (earlier-at width e.desks e.numbers carried e.stamps e.count p s h) in
+      first_of_run (executed_in e) s (mark_in e p).id d R (λ k lo hi. run e.count h s k lo (rw m at hi)) ∙ ap (lowest_above R) m
 
-  module _ (N own count p : ℕ) (waiting : List Mark) (a : MarkId) (found : place_at n count p ds ns bs ss ≡ find mark_id a (view n count ds ns bs ss)) where
-    abbrev state : State
-    state = record { own = own; executed = view n count ds ns bs ss; waiting = waiting }
+  module _ (l : Lent e) (own : ℕ) (waiting : List Mark) (a : MarkId) (d : ℕ) (k : is_desk width d ≡ true) where
+    pub first-none : Finds e a None → refused 12 ≡ first_apart width (queried_state e own waiting) a d
+    first-none f = sym (answer_as width (queried_state e own waiting) a d true false _ k (found-absent e l a f) refl)
 
-    first-not-executed : (d : ℕ) → is_desk N d ≡ true → count ≤ p → first_apart N (record { own = own; executed = view n count ds ns bs ss; waiting = waiting }) a d ≡ refused 12
-    first-not-executed d e h = answer_as N state a d true false _ e (found_none n ds ns bs ss count p a h found).1 refl
+    -- So many of the desk's marks stand before the place, of which the first R precede.
+    module _ (p : Place) (f : Finds e a (Some p)) (s : CausallyOrdered (executed_in e)) (R made : ℕ) (m : MadeBefore e d p.0 made) (told : FirstRunAt e p.0 d made R) where
+      lowest : first_apart width (queried_state e own waiting) a d ≡ gives (lowest_above R made)
+      lowest =
+          let i = found_inside e l a p f in
+          let n = made-first e p.0 d made l m (omega arith) in
+          let x = found_some width e.desks e.numbers carried e.stamps e.count p.0 a i (found-place e l a p f carried e.stamps) in
+          answer_as width (queried_state e own waiting) a d true true _ k (T→eq (has a (ids (executed_in e))) x.2)
+          (subst (λ (j : MarkId). lowest_number d (keep (concurrent (executed_in e) j) (earlier j (ids (executed_in e)))) ≡ lowest_above R (tally d (ids (marks_to p.0 e)))) x.1
+          (first-at p.0 s i d R (subst (λ (j : ℕ). FirstRunAt e p.0 d j R) n told)) ∙ ap (lowest_above R) (sym n))
 
-    first_given : (d : ℕ) → is_desk N d ≡ true → p < count → CausallyOrdered (view n count ds ns bs ss) → (R made : ℕ) → made ≡ tally d (ids (view n p ds ns bs ss)) → FirstRunAt n ds ns ss p d made R
-        → first_apart N (record { own = own; executed = view n count ds ns bs ss; waiting = waiting }) a d ≡ gives (lowest_above R made)
-    first_given d e h s R made em told =
-        let x = found_some n ds ns bs ss count p a h found in
-        answer_as N state a d true true _ e (T→eq (has a (ids (view n count ds ns bs ss))) x.2)
-        (subst (λ (i : MarkId). lowest_number d (keep (concurrent (view n count ds ns bs ss) i) (earlier i (ids (view n count ds ns bs ss)))) ≡ lowest_above R (tally d (ids (view n p ds ns bs ss)))) x.1
-        (first-at count p s h d R (subst (λ (k : ℕ). FirstRunAt n ds ns ss p d k R) em told)) ∙ ap (lowest_above R) (sym em))
+      pub first_number : R < made → gives (R + 1) ≡ first_apart width (queried_state e own waiting) a d
+      first_number x = ap gives (add-one R ∙ sym (above-yes R made x)) ∙ sym lowest
 
--- LENT ARRAYS
-
-module _ (count : ℕ) (ds ns ss ts ls bf : List ℕ) (l : Lent count ds ns ts ls bf) (own : ℕ) (bs : ℕ → Carried) (waiting : List Mark)
-    (a : MarkId) (p : ℕ) (f : Finds ts ls bf a p) (d : ℕ) (e : is_desk width d ≡ true) where
-  at : place_at width count p ds ns bs ss ≡ find mark_id a (view width count ds ns bs ss)
-  at = found-place count ds ns ts ls bf l a p f bs ss
-
-  pub first-none : places ≤ p → refused 12 ≡ first_apart width (queried_state count ds ns ss own bs waiting) a d
-  first-none h = let w = l.few in sym (first-not-executed width ds ns bs ss width own count p waiting a at d e (omega arith))
-
-  -- So many of the desk's marks stand before the place, of which the first R precede.
-  module _ (h : p < places) (s : CausallyOrdered (view width count ds ns bs ss)) (R made : ℕ) (m : MadeBefore ds ns ts ls d p made) (told : FirstRunAt width ds ns ss p d made R) where
-    lowest : first_apart width (queried_state count ds ns ss own bs waiting) a d ≡ gives (lowest_above R made)
-    lowest =
-        let i = found_inside count ds ns ts ls bf l a p f h in
-        first_given width ds ns bs ss width own count p waiting a at d e i s R made (made-first count p d made ds ns ts ls bf l m (omega arith) bs ss) told
-
-    pub first_number : R < made → gives (R + 1) ≡ first_apart width (queried_state count ds ns ss own bs waiting) a d
-    first_number x = ap gives (add-one R ∙ sym (above-yes R made x)) ∙ sym lowest
-
-    pub first_no_number : made ≤ R → gives 0 ≡ first_apart width (queried_state count ds ns ss own bs waiting) a d
-    first_no_number x = ap gives (sym (above_no R made x)) ∙ sym lowest
+      pub first_no_number : made ≤ R → gives 0 ≡ first_apart width (queried_state e own waiting) a d
+      first_no_number x = ap gives (sym (above_no R made x)) ∙ sym lowest

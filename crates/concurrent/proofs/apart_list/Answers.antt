@@ -1,17 +1,20 @@
--- `apart_list` meets its contract: its three ways out are those of `ApartWays`, from what find, apart and refused ensure.
+-- `apart_list` meets its contract: its three ways out are those of `ApartWays`, from what find and apart ensure.
 use Rattle.std.proofs.Common.{rules}
 use Rattle.executed.proofs.Chain.{found_inside}
 use Rattle.concurrent.proofs.ApartWays.{apart-all-listed, apart-not-executed, apart_too_short}
 use Rattle.concurrent.proofs.apart_list.Goals as goal
 
-pub returns-then-p-ge-PLACES : goal.returns-then-p-ge-PLACES
-returns-then-p-ge-PLACES c = search (rules, apart-not-executed)
+pub find-requires : goal.find-requires
+find-requires c = record { names = _; chain = c.requires.chain }
+
+pub returns-in_default : goal.returns-in_default
+returns-in_default c = search (rules, apart-not-executed)
 
 pub apart-list-requires : goal.apart-list-requires
-apart-list-requires c = search (rules, found_inside)
+apart-list-requires c = (c.requires.few, found_inside _ c.requires _ _ c.in-Some.ensures, c.requires.named)
 
 pub returns-then-room-list : goal.returns-then-room-list
-returns-then-room-list c = search (rules, apart_too_short)
+returns-then-room-list c own waiting l s = apart_too_short _ l own waiting _ _ _ c.in-Some.ensures s _ c.apart-list.ensures c.if-room-list.true
 
 pub returns : goal.returns
-returns c = search (rules, apart-all-listed)
+returns c own waiting l s = apart-all-listed _ l own waiting _ _ _ c.in-Some.ensures s _ c.apart-list.ensures c.if-room-list.false

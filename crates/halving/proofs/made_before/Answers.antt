@@ -2,5 +2,5 @@
 use Rattle.queries.proofs.MadeBefore.{made_met}
 use Rattle.halving.proofs.made_before.Goals as goal
 
-pub returns-then-desks-q : goal.returns-then-desks-q
-returns-then-desks-q c = made_met _ _ c.args.tally.now c.args.last.now _ _ _ c.loop-q.invariant c.loop-q-test.true c.if-desks-q.true
+pub returns-then-executed-q : goal.returns-then-executed-q
+returns-then-executed-q c = made_met c.args.executed.now _ _ _ c.loop-q.invariant c.loop-q-test.true c.if-executed-q.true

@@ -16,7 +16,7 @@ returns t c sound =
     let h = c.requires in
     let z : 0 < a.at.0 = let l = c.if-at-eq0.false in omega arith in
     let reaches : (let a = c.args in let e = a.executed.now in let bs = carried_at e.boxes e.pasts in
-        reached width e.desks e.numbers bs e.stamps (a.at.0 - 1) c.if-executed-p-3.row a.desk ≡ reached width e.desks e.numbers bs e.stamps a.at.0 a.row.now a.desk) = elim c.if-executed-p-3.branch [
+    reached width e.desks e.numbers bs e.stamps (a.at.0 - 1) c.if-executed-p-3.row a.desk ≡ reached width e.desks e.numbers bs e.stamps a.at.0 a.row.now a.desk) = elim c.if-executed-p-3.branch [
       | then-executed-p-3 w ↦ rw w.row-is (reach_joined width _ _ bs e.stamps _ _ _ z h.named (rw c.from-2.ensures at w.if-executed-p-3.true) w.join.ensures.counts _ h.low h.high)
       | else-executed-p-3 w ↦ rw w.row-is (reach_passed width _ _ bs e.stamps _ _ z (rw c.from-2.ensures at w.if-executed-p-3.false) _ h.low)
     ] in
