@@ -1,12 +1,9 @@
-// The calls, each with its line. A desk comes only from New and the calls.
-ghost use Rattle.std.specs.Prelude.{IfOk};
-ghost use Rattle.desk.specs.StateOf.{Kept};
-
+// The calls, each with its line: in place, at a desk that the caller lends.
 use crate::frames::{self, Slot};
 use crate::show::{self, Amount, Answer, Marked, Marks, Receipt, Verdict};
-use causality::{Made, Received};
 use desk::Desk;
-use frame::{MarkBox, MarkId, Number, Refusal};
+use frame::{MarkBox, MarkId, Number};
+use pairs::Listed;
 use std::io;
 
 /// Mark d.n.
@@ -18,23 +15,11 @@ pub fn id(desk: u8, number: u16) -> MarkId {
 }
 
 /// New.
-pub fn new(rt: &impl Print, own: u8) -> io::Result<Desk>
-    ensures { IfOk result Kept }
-{
-    let created = Desk::new(own);
-    let answer = Answer(created.answer.map(|()| "empty desk"));
+pub fn new(rt: &impl Print, own: u8) -> io::Result<Desk> {
+    let (desk, answer) = Desk::new(own);
+    let answer = Answer(answer.map(|()| "empty desk"));
     println!(rt; "New {own}: {answer}")?;
-    Ok(created.desk)
-}
-
-/// Mark, before its line.
-pub fn marking(desk: &mut Desk, extent: MarkBox, out: &mut [u8]) -> Result<Made, Refusal>
-    requires { Kept desk.old }
-    ensures { Kept desk.new }
-{
-    let marked = desk.mark(extent, out);
-    *desk = marked.desk;
-    marked.answer
+    Ok(desk)
 }
 
 /// Mark into lent bytes.
@@ -44,108 +29,79 @@ pub fn mark(
     desk: &mut Desk,
     extent: MarkBox,
     out: &mut [u8],
-) -> io::Result<()>
-    requires { Kept desk.old }
-    ensures { Kept desk.new }
-{
-    let answer = marking(desk, extent, out);
+) -> io::Result<()> {
+    let answer = desk.mark_in_place(extent, out);
     let answer = Answer(answer.map(|made| Marked { made, out }));
     println!(rt; "{label}: {answer}")
 }
 
 /// Mark into a slot, where the line names the mark.
-pub fn mark_in(rt: &impl Print, desk: &mut Desk, mark: MarkId, slot: &mut Slot) -> io::Result<()>
-    requires { Kept desk.old }
-    ensures { Kept desk.new }
-{
-    let answer = marking(desk, frames::EXTENT, slot);
+pub fn mark_in(rt: &impl Print, desk: &mut Desk, mark: MarkId, slot: &mut Slot) -> io::Result<()> {
+    let answer = desk.mark_in_place(frames::EXTENT, slot);
     let answer = Answer(answer.map(|made| Marked { made, out: slot }));
     println!(rt; "{mark}: {answer}")
 }
 
-/// Receive, before its line.
-pub fn receiving(desk: &mut Desk, frame: &[u8]) -> Result<Received, Refusal>
-    requires { Kept desk.old }
-    ensures { Kept desk.new }
-{
-    let received = desk.receive(frame);
-    *desk = received.desk;
-    received.answer
-}
-
 /// Receive.
-pub fn receive(rt: &impl Print, label: &str, desk: &mut Desk, frame: &[u8]) -> io::Result<()>
-    requires { Kept desk.old }
-    ensures { Kept desk.new }
-{
-    let answer = Answer(receiving(desk, frame).map(Receipt));
+pub fn receive(rt: &impl Print, label: &str, desk: &mut Desk, frame: &[u8]) -> io::Result<()> {
+    let answer = Answer(desk.receive_in_place(frame).map(Receipt));
     println!(rt; "{label}: {answer}")
 }
 
 /// Receive of the frame in a slot.
-pub fn receive_from(rt: &impl Print, label: &str, desk: &mut Desk, slot: &Slot) -> io::Result<()>
-    requires { Kept desk.old }
-    ensures { Kept desk.new }
-{
+pub fn receive_from(rt: &impl Print, label: &str, desk: &mut Desk, slot: &Slot) -> io::Result<()> {
     receive(rt, label, desk, frames::whole(slot))
 }
 
 /// The same, where the line names the desk and the mark.
-pub fn hand_over(rt: &impl Print, own: u8, desk: &mut Desk, slot: &Slot) -> io::Result<()>
-    requires { Kept desk.old }
-    ensures { Kept desk.new }
-{
+pub fn hand_over(rt: &impl Print, own: u8, desk: &mut Desk, slot: &Slot) -> io::Result<()> {
     let frame = frames::whole(slot);
-    let answer = Answer(receiving(desk, frame).map(Receipt));
+    let answer = Answer(desk.receive_in_place(frame).map(Receipt));
     println!(rt; "desk {own} receives {}: {answer}", show::name(frame))
 }
 
 /// Relate.
-pub fn relate(rt: &impl Print, desk: &Desk, a: MarkId, b: MarkId) -> io::Result<()>
-    requires { Kept desk.now }
-{
-    let answer = Answer(desk.relate(a, b).answer);
+pub fn relate(rt: &impl Print, desk: &Desk, a: MarkId, b: MarkId) -> io::Result<()> {
+    let answer = Answer(desk.relate_in_place(a, b));
     println!(rt; "Relate {a}, {b}: {answer}")
 }
 
 /// Evidence, with room for a chain of so many marks.
-pub fn evidence(rt: &impl Print, desk: &Desk, a: MarkId, b: MarkId, room: usize) -> io::Result<()>
-    requires { Kept desk.now }
-{
-    let found = desk.evidence_list(a, b, room).found;
-    let answer = Answer(found.answer.map(Verdict));
+pub fn evidence(rt: &impl Print, desk: &Desk, a: MarkId, b: MarkId, room: usize) -> io::Result<()> {
+    let (answer, list) = match desk.evidence_list_in_place(a, b, room) {
+        Ok((evidence, list)) => (Ok(Verdict(evidence)), list),
+        Err(refusal) => (Err(refusal), Listed::new()),
+    };
     println!(rt;
-        "Evidence of {a}, {b}, room for {room}: {answer}, marks{}",
-        Marks(&found.list)
+        "Evidence of {a}, {b}, room for {room}: {}, marks{}",
+        Answer(answer),
+        Marks(&list)
     )
 }
 
 /// Apart, with room for so many marks.
-pub fn apart(rt: &impl Print, desk: &Desk, a: MarkId, room: usize) -> io::Result<()>
-    requires { Kept desk.now }
-{
-    let found = desk.apart_list(a, room).found;
-    let answer = Answer(found.answer.map(|n| Amount("count", n)));
+pub fn apart(rt: &impl Print, desk: &Desk, a: MarkId, room: usize) -> io::Result<()> {
+    let (answer, list) = match desk.apart_list_in_place(a, room) {
+        Ok(list) => (Ok(Amount("count", list.count)), list),
+        Err(refusal) => (Err(refusal), Listed::new()),
+    };
     println!(rt;
-        "Apart of {a}, room for {room}: {answer}, marks{}",
-        Marks(&found.list)
+        "Apart of {a}, room for {room}: {}, marks{}",
+        Answer(answer),
+        Marks(&list)
     )
 }
 
 /// First apart for a desk; 0 where it has no such mark.
-pub fn first_apart(rt: &impl Print, desk: &Desk, a: MarkId, of: u8) -> io::Result<()>
-    requires { Kept desk.now }
-{
-    let answer = desk.first_apart(a, of).answer;
+pub fn first_apart(rt: &impl Print, desk: &Desk, a: MarkId, of: u8) -> io::Result<()> {
+    let answer = desk.first_apart_in_place(a, of);
     let answer = Answer(answer.map(|first| first.map_or(0, |number| number.0)));
     println!(rt; "First apart of {a}, desk {of}: {answer}")
 }
 
 /// Frame again into lent bytes.
-pub fn frame_again(rt: &impl Print, desk: &Desk, a: MarkId, out: &mut [u8]) -> io::Result<()>
-    requires { Kept desk.now }
-{
-    let answer = desk.frame_again(a, out).answer;
+pub fn frame_again(rt: &impl Print, desk: &Desk, a: MarkId, out: &mut [u8]) -> io::Result<()> {
+    let answer = desk.frame_again_in_place(a, out);
     let answer = Answer(answer.map(|n| Amount("size", n)));
     println!(rt; "Frame again of {a}, bytes lent {}: {answer}", out.len())
 }

@@ -1,7 +1,4 @@
 // A click is boxed as one instant. Each box goes to Mark, and in a frame of 1.1 to Receive.
-ghost use Rattle.std.specs.Prelude.{IfOk};
-ghost use Rattle.desk.specs.StateOf.{Kept};
-
 use crate::calls;
 use crate::frames::{EMPTY, EXTENT, Slot};
 use desk::Desk;
@@ -15,9 +12,7 @@ fn boxed(
     extent: MarkBox,
     frame: &[u8],
     slot: &mut Slot,
-) -> io::Result<Desk>
-    ensures { IfOk result Kept }
-{
+) -> io::Result<Desk> {
     let mut one = calls::new(rt, 1)?;
     calls::mark(rt, label, &mut one, extent, slot)?;
     let mut two = calls::new(rt, 2)?;

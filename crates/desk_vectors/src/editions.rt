@@ -1,7 +1,4 @@
 // Frames of either edition at desk 2, and the converter.
-ghost use Rattle.std.specs.Prelude.{IfOk};
-ghost use Rattle.desk.specs.StateOf.{Kept};
-
 use crate::calls::{self, id};
 use crate::frames::{EMPTY, EXAMPLE, EXTENT, FILL, Slot, stamped};
 use crate::show::{Amount, Answer, Bytes};
@@ -52,9 +49,7 @@ fn waiting_counted(rt: &impl Print) -> io::Result<()> {
 }
 
 // Frame again of 1.2, which came in edition 1.
-fn again(rt: &impl Print, desk: &Desk) -> io::Result<()>
-    requires { Kept desk.now }
-{
+fn again(rt: &impl Print, desk: &Desk) -> io::Result<()> {
     let mut out = [FILL; 30];
     calls::frame_again(rt, desk, id(1, 2), &mut out)?;
     println!(rt; "bytes: {}", Bytes(&out))
@@ -77,10 +72,14 @@ fn converted<F: FnOnce(&mut [u8]) -> Result<usize, Refusal>>(
 }
 
 // From 1 to 2 at a desk.
-fn to_second(rt: &impl Print, label: &str, desk: &Desk, frame: &[u8], lent: usize) -> io::Result<()>
-    requires { Kept desk.now }
-{
-    converted(rt, label, lent, |out| desk.to_second(frame, out).answer)
+fn to_second(
+    rt: &impl Print,
+    label: &str,
+    desk: &Desk,
+    frame: &[u8],
+    lent: usize,
+) -> io::Result<()> {
+    converted(rt, label, lent, |out| desk.to_second_in_place(frame, out))
 }
 
 // From 2 to 1.
@@ -89,9 +88,7 @@ fn to_first(rt: &impl Print, label: &str, frame: &[u8], lent: usize) -> io::Resu
 }
 
 // Desk 1 with its 1.1, with 2.1 in edition 1 and 3.1 in edition 2, and with its 1.2.
-fn maker(rt: &impl Print) -> io::Result<Desk>
-    ensures { IfOk result Kept }
-{
+fn maker(rt: &impl Print) -> io::Result<Desk> {
     let mut out = EMPTY;
     let mut desk = calls::new(rt, 1)?;
     let second = stamped(id(2, 1), Past::Unsaid, &[]);
@@ -104,9 +101,7 @@ fn maker(rt: &impl Print) -> io::Result<Desk>
 }
 
 // From 1 to 2 at desk 1, which has 1.2, and at desk 4, fresh and with 1.2 waiting: 14 comes before 12, and 12 before 13.
-fn at_desks(rt: &impl Print, one: &Desk, edition1: &[u8], edition2: &[u8]) -> io::Result<()>
-    requires { Kept one.now }
-{
+fn at_desks(rt: &impl Print, one: &Desk, edition1: &[u8], edition2: &[u8]) -> io::Result<()> {
     let mut four = calls::new(rt, 4)?;
     to_second(rt, "1.2 from 1 to 2", one, edition1, 34)?;
     to_second(rt, "1.2 from 1 to 2", one, edition1, 33)?;
@@ -124,9 +119,7 @@ fn at_desks(rt: &impl Print, one: &Desk, edition1: &[u8], edition2: &[u8]) -> io
 }
 
 // The frames of 1.2 with start 1001 and with past count 512: 8 comes before 13.
-fn altered(rt: &impl Print, one: &Desk) -> io::Result<()>
-    requires { Kept one.now }
-{
+fn altered(rt: &impl Print, one: &Desk) -> io::Result<()> {
     let start =
         b"\x00\x1E\x01\x01\x00\x02\x00\x00\x03\xE9\x00\x00\x05\xDC\x00\x00\x00\x64\x00\x00\x01\x90\x03\x01\x00\x01\x02\x00\x01\x03\x00\x01";
     let past =

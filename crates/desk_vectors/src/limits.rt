@@ -1,7 +1,4 @@
 // The bounds: marks that wait, and a full desk.
-ghost use Rattle.std.specs.Prelude.{IfOk};
-ghost use Rattle.desk.specs.StateOf.{Kept};
-
 use crate::calls::{self, id};
 use crate::frames::{self, EMPTY, EXTENT, Slot};
 use desk::Desk;
@@ -11,14 +8,11 @@ use std::io;
 use waiting::WAITING;
 
 /// So many marks are made at a desk, each handed over to another.
-pub fn steps(maker: &mut Desk, taker: &mut Desk, times: usize)
-    requires { Kept maker.old × Kept taker.old }
-    ensures { Kept maker.new × Kept taker.new }
-{
+pub fn steps(maker: &mut Desk, taker: &mut Desk, times: usize) {
     for _step in 0..times {
         let mut slot = EMPTY;
-        let _ = calls::marking(maker, EXTENT, &mut slot);
-        let _ = calls::receiving(taker, frames::whole(&slot));
+        let _ = maker.mark_in_place(EXTENT, &mut slot);
+        let _ = taker.receive_in_place(frames::whole(&slot));
     }
 }
 
@@ -38,13 +32,11 @@ pub fn waiting(rt: &impl Print) -> io::Result<()> {
     calls::receive_from(rt, "1.66 after them", &mut taker, &beyond)
 }
 
-// A desk with so many marks of its own.
-fn filled(rt: &impl Print, own: u8, times: usize) -> io::Result<Desk>
-    ensures { IfOk result Kept }
-{
+// A desk with so many marks of its own; Mark by value.
+fn filled(rt: &impl Print, own: u8, times: usize) -> io::Result<Desk> {
     let mut desk = calls::new(rt, own)?;
     for _mark in 0..times {
-        let _ = calls::marking(&mut desk, EXTENT, &mut EMPTY);
+        desk = desk.mark(EXTENT, &mut EMPTY).0;
     }
     Ok(desk)
 }
@@ -59,10 +51,7 @@ fn others(rt: &impl Print) -> io::Result<[Slot; 2]> {
 }
 
 // A desk makes its 512th mark.
-fn executed(rt: &impl Print, desk: &mut Desk, other: &Slot) -> io::Result<()>
-    requires { Kept desk.old }
-    ensures { Kept desk.new }
-{
+fn executed(rt: &impl Print, desk: &mut Desk, other: &Slot) -> io::Result<()> {
     let mut last = EMPTY;
     calls::mark_in(rt, desk, id(1, NUMBERS), &mut last)?;
     calls::receive_from(rt, "full desk receives 2.1", desk, other)?;
@@ -70,19 +59,13 @@ fn executed(rt: &impl Print, desk: &mut Desk, other: &Slot) -> io::Result<()>
 }
 
 // A desk with 512 executed marks.
-fn refused(rt: &impl Print, desk: &mut Desk) -> io::Result<()>
-    requires { Kept desk.old }
-    ensures { Kept desk.new }
-{
+fn refused(rt: &impl Print, desk: &mut Desk) -> io::Result<()> {
     calls::mark(rt, "full desk marks", desk, EXTENT, &mut EMPTY)?;
     calls::relate(rt, desk, id(1, 1), id(1, NUMBERS))
 }
 
 // 5 comes before 9, and 9 before 13.
-fn refused_by_rising_number(rt: &impl Print, desk: &mut Desk) -> io::Result<()>
-    requires { Kept desk.old }
-    ensures { Kept desk.new }
-{
+fn refused_by_rising_number(rt: &impl Print, desk: &mut Desk) -> io::Result<()> {
     let extent = MarkBox {
         start: 1001,
         end: 1000,
@@ -99,9 +82,7 @@ fn refused_by_rising_number(rt: &impl Print, desk: &mut Desk) -> io::Result<()>
 }
 
 // A desk with 511 executed marks and one waiting, a copy: the caller's has none waiting.
-fn with_waiting(rt: &impl Print, mut desk: Desk, others: &[Slot; 2]) -> io::Result<()>
-    requires { Kept desk }
-{
+fn with_waiting(rt: &impl Print, mut desk: Desk, others: &[Slot; 2]) -> io::Result<()> {
     let [first, second] = others;
     calls::receive_from(rt, "511 executed, 2.2", &mut desk, second)?;
     calls::mark(

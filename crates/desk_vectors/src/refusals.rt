@@ -1,7 +1,7 @@
 // False stamps, refusals of New, Mark and Receive, and the bytes lent to Mark.
 use crate::calls::{self, id};
 use crate::frames::{self, EMPTY, EXAMPLE, EXTENT, FILL, Slot};
-use crate::show::{self, Bytes};
+use crate::show::{self, Answer, Bytes, Receipt};
 use frame::{DESKS, Past};
 use std::io;
 
@@ -104,10 +104,10 @@ pub fn false_stamps(rt: &impl Print) -> io::Result<()> {
     waiting(rt, &stamps)
 }
 
-// A fresh desk receives a frame.
+// A fresh desk receives a frame by value; the desk that it gives goes.
 fn received(rt: &impl Print, label: &str, own: u8, frame: &[u8]) -> io::Result<()> {
-    let mut desk = calls::new(rt, own)?;
-    calls::receive(rt, label, &mut desk, frame)
+    let (_, answer) = calls::new(rt, own)?.receive(frame);
+    println!(rt; "{label}: {}", Answer(answer.map(Receipt)))
 }
 
 // The example's frame with another byte, received by a fresh desk.

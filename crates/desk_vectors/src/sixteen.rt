@@ -1,8 +1,6 @@
 // Sixteen desks in one array exchange their marks out of order, each round in an order of its own.
 ghost use Rattle.std.specs.Prelude.{◌<◌};
 ghost use Rattle.rows.specs.View.{width};
-ghost use Rattle.desk.specs.StateOf.{Kept};
-ghost use Rattle.desk_vectors.specs.inner.AllKept.{AllKept};
 
 use crate::calls::{self, id};
 use crate::frames::{EMPTY, Slot, whole};
@@ -41,11 +39,7 @@ impl Order {
 }
 
 // Desks 1 to 16 take their places.
-#[tactic(auto, using(crate::proofs::Desks::all_set))]
-fn created(rt: &impl Print, desks: &mut Desks) -> io::Result<()>
-    requires { AllKept desks.old }
-    ensures { AllKept desks.new }
-{
+fn created(rt: &impl Print, desks: &mut Desks) -> io::Result<()> {
     for k in 0..DESKS {
         desks[usize::from(k)] = calls::new(rt, k + 1)?;
     }
@@ -53,11 +47,7 @@ fn created(rt: &impl Print, desks: &mut Desks) -> io::Result<()>
 }
 
 // Each desk makes its mark of a number.
-#[tactic(auto, using(crate::proofs::Desks::all_set))]
-fn all_make(rt: &impl Print, desks: &mut Desks, n: u16, frames: &mut Frames) -> io::Result<()>
-    requires { AllKept desks.old }
-    ensures { AllKept desks.new }
-{
+fn all_make(rt: &impl Print, desks: &mut Desks, n: u16, frames: &mut Frames) -> io::Result<()> {
     for k in 0..DESKS {
         let at = usize::from(k);
         calls::mark_in(rt, &mut desks[at], id(k + 1, n), &mut frames[at])?;
@@ -67,31 +57,26 @@ fn all_make(rt: &impl Print, desks: &mut Desks, n: u16, frames: &mut Frames) -> 
 
 // The desk at index k is handed the others' frames.
 fn receives(desk: &mut Desk, k: u8, order: Order, frames: &Frames) -> Sums
-    requires { (k < width) × Kept desk.old }
-    ensures { Kept desk.new }
+    requires { k < width }
 {
     let mut sums = Sums::default();
     for i in 0..DESKS {
         let sender = order.sender(k, i);
         if sender != k {
-            sums.add(calls::receiving(desk, whole(&frames[usize::from(sender)])));
+            sums.add(desk.receive_in_place(whole(&frames[usize::from(sender)])));
         }
     }
     sums
 }
 
 // Each desk is handed the others' frames.
-#[tactic(auto, using(crate::proofs::Desks::all_set))]
 fn all_receive(
     rt: &impl Print,
     desks: &mut Desks,
     label: &str,
     order: Order,
     frames: &Frames,
-) -> io::Result<()>
-    requires { AllKept desks.old }
-    ensures { AllKept desks.new }
-{
+) -> io::Result<()> {
     for k in 0..DESKS {
         let sums = receives(&mut desks[usize::from(k)], k, order, frames);
         println!(rt; "desk {} receives {label}: {sums}", k + 1)?;
@@ -100,10 +85,7 @@ fn all_receive(
 }
 
 // Each desk makes two marks; the second marks are handed over before the first.
-fn two_rounds(rt: &impl Print, desks: &mut Desks) -> io::Result<()>
-    requires { AllKept desks.old }
-    ensures { AllKept desks.new }
-{
+fn two_rounds(rt: &impl Print, desks: &mut Desks) -> io::Result<()> {
     let mut firsts = [EMPTY; WIDTH];
     let mut seconds = [EMPTY; WIDTH];
     all_make(rt, desks, 1, &mut firsts)?;
@@ -113,18 +95,13 @@ fn two_rounds(rt: &impl Print, desks: &mut Desks) -> io::Result<()>
 }
 
 // The third marks, each after all that were handed over.
-fn third_round(rt: &impl Print, desks: &mut Desks) -> io::Result<()>
-    requires { AllKept desks.old }
-    ensures { AllKept desks.new }
-{
+fn third_round(rt: &impl Print, desks: &mut Desks) -> io::Result<()> {
     let mut thirds = [EMPTY; WIDTH];
     all_make(rt, desks, 3, &mut thirds)?;
     all_receive(rt, desks, "the third marks", Order::Round, &thirds)
 }
 
-fn relations(rt: &impl Print, desk: &Desk) -> io::Result<()>
-    requires { Kept desk.now }
-{
+fn relations(rt: &impl Print, desk: &Desk) -> io::Result<()> {
     calls::relate(rt, desk, id(1, 1), id(DESKS, 3))?;
     calls::relate(rt, desk, id(DESKS, 3), id(1, 2))?;
     calls::relate(rt, desk, id(1, 2), id(DESKS, 2))?;
@@ -134,11 +111,11 @@ fn relations(rt: &impl Print, desk: &Desk) -> io::Result<()>
     calls::relate(rt, desk, id(1, 3), id(DESKS, 4))
 }
 
-#[tactic(auto, using(crate::proofs::Desks::all_filled))]
 pub fn run(rt: &impl Print) -> io::Result<()> {
-    let mut desks = [Desk::new(1).desk; WIDTH];
+    let mut desks = [Desk::new(1).0; WIDTH];
     created(rt, &mut desks)?;
     two_rounds(rt, &mut desks)?;
     third_round(rt, &mut desks)?;
-    relations(rt, &desks[WIDTH - 1])
+    let [.., last] = &desks;
+    relations(rt, last)
 }
