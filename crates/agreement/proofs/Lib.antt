@@ -1,5 +1,6 @@
 -- The modules of the proofs.
 pub mod Frames
 pub mod Laws
+pub mod Growth
 pub mod Sequences
 pub mod Scenario

@@ -1,5 +1,4 @@
 -- What holds over every sequence of steps, from the theorems of the crates history and desk. Assumes nothing.
-use Prim.Native.Nat.{ℕ}
 use Rattle.frame.specs.Names.{MarkId}
 use Rattle.desk.proofs.Demand3.{demand3_calls}
 use Rattle.history.proofs.Evidence.{evidence_holds}

@@ -3,6 +3,7 @@
 
 ghost use Rattle.agreement.specs.Agreement.{DesksAgree, EvidenceHolds, PairsAreOfTheHistory};
 ghost use Rattle.agreement.specs.Frames.{FramesReadBack};
+ghost use Rattle.agreement.specs.Growth.{ReceiveGrows};
 ghost use Rattle.agreement.specs.Laws.{LawsOfDesks};
 ghost use Rattle.agreement.specs.Pairs.{PairsAddUp};
 ghost use Rattle.agreement.specs.Precedence.{ChainsWithin, StampsAreDirect};
@@ -62,6 +63,12 @@ pub fn chains_lead_through_sets<S: MarkSet>()
 #[tactic(auto, using(crate::proofs::Sequences::silent_leave))]
 pub fn silent_desks_leave_the_stamps()
     ensures { SilentDesksLeave }
+{}
+
+/// What Receive says of executed marks is their growth.
+#[tactic(auto, using(crate::proofs::Growth::receive_grows))]
+pub fn receive_says_its_growth()
+    ensures { ReceiveGrows }
 {}
 
 /// Pairs of marks add up at every desk.
