@@ -4,3 +4,4 @@ pub mod Laws
 pub mod Growth
 pub mod Sequences
 pub mod Scenario
+pub mod SharedWords

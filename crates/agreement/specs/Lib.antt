@@ -7,4 +7,5 @@ pub mod Pairs
 pub mod Silence
 pub mod Precedence
 pub mod Scenario
+pub mod SharedWords
 pub mod inner

@@ -8,6 +8,7 @@ ghost use Rattle.agreement.specs.Laws.{LawsOfDesks};
 ghost use Rattle.agreement.specs.Pairs.{PairsAddUp};
 ghost use Rattle.agreement.specs.Precedence.{ChainsWithin, StampsAreDirect};
 ghost use Rattle.agreement.specs.Scenario.{Scenario, WrongReadings};
+ghost use Rattle.agreement.specs.SharedWords.{WordsOnNames, WordsOnThings};
 ghost use Rattle.agreement.specs.Silence.{SilentDesksLeave};
 ghost use Rattle.agreement.specs.inner.OneDesk.{OneStateOneDesk};
 ghost use Rattle.agreement.specs.inner.RowLaws.{LawsByRows};
@@ -86,6 +87,20 @@ pub fn tables_count_pairs_of_the_history()
 pub fn scenario_is_as_defined()
     ensures defined { Scenario }
     ensures readings { WrongReadings }
+{}
+
+/// A thing that is named by a mark, any at all.
+pub trait Named {
+    ghost use Rattle.frame.specs.Names.{MarkId};
+
+    ghost name_of: { Self → MarkId };
+}
+
+/// The words that desk and plain machine share are what they are meant to be, for names and for anything that has one.
+#[tactic(auto, using(crate::proofs::SharedWords::words_on_names, crate::proofs::SharedWords::words_on_things))]
+pub fn shared_words_are_pinned<Thing: Named>()
+    ensures names { WordsOnNames }
+    ensures things { WordsOnThings Thing.name_of }
 {}
 
 /// A desk is settled by its state, so a refusal leaves the very desk.
