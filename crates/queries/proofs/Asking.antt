@@ -6,7 +6,7 @@ use lib.ListN.{get_or, length, take}
 use mathlib.Core.Bool.{◌||◌, false, or-true, true}
 use mathlib.Core.List.{List, []}
 use mathlib.Core.Logic.{inl, inr}
-use mathlib.Core.Path.{◌∙◌, ◌≡◌, ap, refl, subst}
+use mathlib.Core.Path.{◌∙◌, ◌≡◌, ap, refl, subst, sym}
 use native.Mathlib.Omega.{arith}
 use Rattle.frame.specs.Names.{MarkId}
 use Rattle.causality.specs.Marks.{has, tally}
@@ -25,7 +25,7 @@ use Rattle.rows.proofs.Places.{ids-names}
 use Rattle.rows.proofs.RowSteps.{one-turn, pass_ended, pass_rest, pass_step}
 use Rattle.queries.specs.inner.Steps.{AskedOf, ends_at}
 use Rattle.causality.proofs.Lists.{tally_few}
-use Rattle.queries.proofs.Reaching.{reach_end, reach_now, reached}
+use Rattle.queries.proofs.Reaching.{reach_end, reach_now, reached, reached_any}
 use Rattle.rows.proofs.Down.{down-length}
 
 module _ (n : ℕ) (ds ns : List ℕ) (bs : ℕ → Carried) (ss : List (List ℕ)) (i : MarkId) (row : List ℕ) (at : ℕ) where
@@ -118,11 +118,14 @@ module _ (a : Executed) (row : List ℕ) (at : ℕ) (i : MarkId) where
     }
 
     module _ (after : List ℕ) (made r : ℕ) (w : AskedOf a row at i after made r) where
-      -- The row reaches there what it reached before.
-      pub asked-reaches : reached width a.desks a.numbers carried a.stamps r after i.desk ≡ reached width a.desks a.numbers carried a.stamps at row i.desk
-      asked-reaches = pass_rest width a.desks a.numbers carried a.stamps (λ d. 0) at r w.less f row after w.counts i.desk lo hi
+      -- The row reaches there what it reached before, whatever else the marks carry.
+      pub asked-reaches : (bs : ℕ → Carried) → reached width a.desks a.numbers bs a.stamps r after i.desk ≡ reached width a.desks a.numbers bs a.stamps at row i.desk
+      asked-reaches bs = reached_any width a.desks a.numbers bs a.stamps carried r after i.desk
+          ∙ pass_rest width a.desks a.numbers carried a.stamps (λ d. 0) at r w.less f row after w.counts i.desk lo hi
+          ∙ sym (reached_any width a.desks a.numbers bs a.stamps carried at row i.desk)
 
       -- It counts the mark if it reaches it.
-      pub asked-told : CausallyOrdered (marks_to at a) → leb i.number (row_fn after i.desk) ≡ leb i.number (reached width a.desks a.numbers carried a.stamps at row i.desk)
-      asked-told s = told_ended width a.desks a.numbers carried a.stamps i after r (sound_below width at a.desks a.numbers carried a.stamps s r w.less) w.ends
-          ∙ ap (leb i.number) asked-reaches
+      pub asked-told : (bs : ℕ → Carried) → CausallyOrdered (view width at a.desks a.numbers bs a.stamps)
+          → leb i.number (row_fn after i.desk) ≡ leb i.number (reached width a.desks a.numbers bs a.stamps at row i.desk)
+      asked-told bs s = told_ended width a.desks a.numbers bs a.stamps i after r (sound_below width at a.desks a.numbers bs a.stamps s r w.less) w.ends
+          ∙ ap (leb i.number) (asked-reaches bs)

@@ -1,11 +1,11 @@
 -- Precedence by one row that is joined place by place, down to the place of the mark that is looked for. n: how many desks. Assumes nothing.
-use Prim.Native.Nat.{◌-◌, ◌<◌, ◌≤◌, max, ℕ}
+use Prim.Native.Nat.{◌-◌, ◌<◌, ◌≤◌, max, suc, zero, ℕ}
 use borrow.Author.Tests.{le-leb, lt-leb}
 use lib.Dec.{T, leb, not_T}
 use lib.ListN.{get_or}
 use mathlib.Core.Bool.{false, true}
 use mathlib.Core.List.{List, []}
-use mathlib.Core.Path.{◌∙◌, ◌≡◌, ap, subst, sym}
+use mathlib.Core.Path.{◌∙◌, ◌≡◌, ap, refl, subst, sym}
 use native.Mathlib.Omega.{arith}
 use Rattle.frame.specs.Names.{MarkId}
 use Rattle.causality.specs.Marks.{has}
@@ -13,8 +13,9 @@ use Rattle.causality.specs.State.{Mark, ids}
 use Rattle.causality.proofs.Logic.{nT→eq}
 use Rattle.causality.specs.inner.Order.{CausallyOrdered}
 use Rattle.causality.proofs.RowLaws.{under_out, under_up}
-use Rattle.causality.specs.inner.Passes.{under}
-use Rattle.rows.specs.View.{Carried, view}
+use Rattle.causality.specs.inner.Passes.{row_of, under}
+use Rattle.causality.specs.Rows.{entries_of_row}
+use Rattle.rows.specs.View.{Carried, row_at, view}
 use Rattle.rows.specs.inner.Slots.{Named, row_fn}
 use Rattle.rows.proofs.Places.{has_more}
 use Rattle.rows.proofs.RowSteps.{named-desks, named-less, under_joined, under-passed, view_last}
@@ -26,6 +27,18 @@ module _ (n : ℕ) (ds ns : List ℕ) (bs : ℕ → Carried) (ss : List (List �
   -- What a row reaches at desk d, from the first k places.
   abbrev pub reached : ℕ → List ℕ → ℕ → ℕ
   reached k row d = under (view n k ds ns bs ss) (λ d. 0) (row_fn row) d
+
+  -- The pass reads names and stamps alone: boxes and pasts change nothing.
+  under_any : (cs : ℕ → Carried) (s : ℕ → ℕ) (k : ℕ) (r : ℕ → ℕ) → under (view n k ds ns bs ss) s r ≡ under (view n k ds ns cs ss) s r
+  unfolding view
+  under_any cs s zero r = refl
+  under_any cs s (suc k) r = λ i. elim (leb (get_or ns k 0) (max (s (get_or ds k 0)) (r (get_or ds k 0)))) as (λ z. ℕ → ℕ) [
+    | true ↦ under_any cs s k (λ d. max (r d) (row_of (entries_of_row n (row_at ss k)) d)) i
+    | false ↦ under_any cs s k r i
+  ]
+
+  pub reached_any : (cs : ℕ → Carried) (k : ℕ) (row : List ℕ) (d : ℕ) → reached k row d ≡ under (view n k ds ns cs ss) (λ d. 0) (row_fn row) d
+  reached_any cs k row d = ap (λ (r : ℕ → ℕ). r d) (under_any cs (λ d. 0) k (row_fn row))
 
   -- What the row counts is reached.
   pub reach_now : (i : MarkId) (k : ℕ) (row : List ℕ) → i.number ≤ row_fn row i.desk → true ≡ leb i.number (reached k row i.desk)

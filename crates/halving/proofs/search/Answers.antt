@@ -1,6 +1,8 @@
 -- `search` meets its contract: what the check leaves of it.
+use borrow.Author.Rules.{rules}
 use mathlib.Core.Path.{refl}
 use native.Mathlib.Omega.{arith}
+use Rattle.halving.proofs.RowLength.{row_long}
 use Rattle.halving.proofs.Searching.{halved_end, halved_high, halved_low, halved_start}
 use Rattle.halving.proofs.search.Goals.{then-k-row, else-k-row}
 use Rattle.halving.proofs.search.Goals as goal
@@ -8,7 +10,7 @@ use Rattle.halving.proofs.search.Goals as goal
 pub loop-low-init : goal.loop-low-init
 loop-low-init c =
     let h = c.requires in
-    (rw (c.min-low.ensures, c.from-d.ensures) (halved_start c.args.executed.now _ _ _ _ h.place h.made), h.made)
+    (rw (c.min-low.ensures, c.from-d.ensures) (halved_start c.args.executed.now _ _ _ _ (search (rules, row_long)) h.place h.made), h.made)
 
 pub loop-low-preserved : goal.loop-low-preserved
 loop-low-preserved c =
