@@ -6,6 +6,7 @@ use desk::Desk;
 use frame::{MarkId, Number};
 use numbers::{ApartNumbers, EvidenceNumbers, FirstApartNumbers, RelateNumbers, WriteNumbers};
 
+// Of a host's numbers: it names a mark by two, here and in the exports below.
 fn named(desk: u8, number: u16) -> MarkId
     ensures { result ≡ mark_id desk number }
 {

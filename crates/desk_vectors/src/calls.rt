@@ -6,7 +6,7 @@ use frame::{MarkBox, MarkId, Number};
 use pairs::Listed;
 use std::io;
 
-/// Mark d.n.
+/// Mark d.n: the cases name marks by two numbers.
 pub fn id(desk: u8, number: u16) -> MarkId {
     MarkId {
         desk,
