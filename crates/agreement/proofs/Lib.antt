@@ -2,6 +2,7 @@
 pub mod Frames
 pub mod Laws
 pub mod Growth
+pub mod EveryState
 pub mod Sequences
 pub mod Scenario
 pub mod SharedWords

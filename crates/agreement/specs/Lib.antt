@@ -3,6 +3,7 @@ pub mod Frames
 pub mod Laws
 pub mod Agreement
 pub mod Growth
+pub mod EveryState
 pub mod Pairs
 pub mod Silence
 pub mod Precedence

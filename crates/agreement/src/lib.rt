@@ -2,6 +2,7 @@
 #![tactic(auto)]
 
 ghost use Rattle.agreement.specs.Agreement.{DesksAgree, EvidenceHolds, PairsAreOfTheHistory};
+ghost use Rattle.agreement.specs.EveryState.{EvidenceIsRelates, ReadyByMissing, RefusalsKeep};
 ghost use Rattle.agreement.specs.Frames.{FramesReadBack};
 ghost use Rattle.agreement.specs.Growth.{ReceiveGrows};
 ghost use Rattle.agreement.specs.Laws.{LawsOfDesks};
@@ -70,6 +71,24 @@ pub fn silent_desks_leave_the_stamps()
 #[tactic(auto, using(crate::proofs::Growth::receive_grows))]
 pub fn receive_says_its_growth()
     ensures { ReceiveGrows }
+{}
+
+/// A refusal changes neither the state nor a lent byte.
+#[tactic(auto, using(crate::proofs::EveryState::refusals_keep))]
+pub fn refusals_change_nothing()
+    ensures { RefusalsKeep }
+{}
+
+/// A mark is ready just where none is missing.
+#[tactic(auto, using(crate::proofs::EveryState::ready_by_missing))]
+pub fn ready_where_none_is_missing()
+    ensures { ReadyByMissing }
+{}
+
+/// The verdict of Evidence is Relate's.
+#[tactic(auto, using(crate::proofs::EveryState::evidence_is_relates))]
+pub fn evidence_has_the_verdict_of_relate()
+    ensures { EvidenceIsRelates }
 {}
 
 /// Pairs of marks add up at every desk.

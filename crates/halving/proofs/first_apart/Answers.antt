@@ -6,8 +6,8 @@ use Rattle.queries.proofs.Relating.{named_found}
 use Rattle.halving.proofs.FirstApart.{first-none, first_no_number, first_number}
 use Rattle.halving.proofs.first_apart.Goals as goal
 
-pub returns-in_default : goal.returns-in_default
-returns-in_default c own waiting l sound = first-none _ l own waiting _ _ (sym c.is_desk.ensures ∙ c.if-not-is_desk.false) c.in_default.ensures
+pub returns-in_default-clause-lowest : goal.returns-in_default-clause-lowest
+returns-in_default-clause-lowest c own waiting l sound = first-none _ l own waiting _ _ (sym c.is_desk.ensures ∙ c.if-not-is_desk.false) c.in_default.ensures
 
 pub search-found-requires-clause-named : goal.search-found-requires-clause-named
 search-found-requires-clause-named c = (named_found _ c.requires _ c.in-Some.p c.in-Some.ensures).1
@@ -17,12 +17,12 @@ search-found-requires-clause-made c =
     let i = found_inside _ c.requires _ c.in-Some.p c.in-Some.ensures in
     c.made_before-made.ensures c.requires (omega arith)
 
-pub returns-then-found-made : goal.returns-then-found-made
-returns-then-found-made c own waiting l sound =
+pub returns-then-found-made-clause-lowest : goal.returns-then-found-made-clause-lowest
+returns-then-found-made-clause-lowest c own waiting l sound =
     first_number _ l own waiting _ _ (sym c.is_desk.ensures ∙ c.if-not-is_desk.false) c.in-Some.p c.in-Some.ensures sound
     _ _ c.made_before-made.ensures c.search-found.ensures.found.run c.if-found-made.true
 
-pub returns-else-found-made : goal.returns-else-found-made
-returns-else-found-made c own waiting l sound =
+pub returns-else-found-made-clause-lowest : goal.returns-else-found-made-clause-lowest
+returns-else-found-made-clause-lowest c own waiting l sound =
     first_no_number _ l own waiting _ _ (sym c.is_desk.ensures ∙ c.if-not-is_desk.false) c.in-Some.p c.in-Some.ensures sound
     _ _ c.made_before-made.ensures c.search-found.ensures.found.run c.if-found-made.false
