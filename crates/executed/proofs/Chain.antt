@@ -17,7 +17,7 @@ use Rattle.causality.proofs.Lists.{find-has, is_some}
 use Rattle.causality.proofs.Logic.{T→eq, nT→eq, or_yes, same_refl, same→eq, split}
 use Rattle.causality.proofs.Past.{fresh_of, prefix_has, prefix_le, tally-same}
 use Rattle.causality.specs.inner.Order.{Consecutive, CausallyOrdered}
-use Rattle.executed.specs.inner.Rows.{Chain, Chained, Finds, Lent, PlaceOf, Rows, last_in, place_in}
+use Rattle.executed.specs.inner.Rows.{Chain, Chained, Finds, Lent, LentTo, PlaceOf, Rows, last_in, place_in}
 use Rattle.rows.proofs.Columns.{eq→eqb}
 use Rattle.executed.proofs.Keeping.{ids-length}
 use Rattle.rows.specs.declared.Executed.{Executed}
@@ -171,28 +171,28 @@ lent_of a r s f h =
     }
 
 -- A place that is found is that of the mark, and else the mark is not executed. The names alone tell it.
-module _ (a : Executed) (l : Lent a) (i : MarkId) where
-  names : (bs : ℕ → Carried) (ss : List (List ℕ)) (r : Maybe Place) → Finds a i r → PlaceOf (ids (view width a.count a.desks a.numbers bs ss)) i r
-  names bs ss r f = rw (ids-names width a.desks a.numbers bs ss a.count) (f (names_down a.count a.desks a.numbers) l.chain)
+module _ (count : ℕ) (a : Executed) (l : LentTo count a) (i : MarkId) where
+  names : (bs : ℕ → Carried) (ss : List (List ℕ)) (r : Maybe Place) → Finds a i r → PlaceOf (ids (view width count a.desks a.numbers bs ss)) i r
+  names bs ss r f = rw (ids-names width a.desks a.numbers bs ss count) (f (names_down count a.desks a.numbers) l.chain)
 
-  pub found_inside : (p : Place) → Finds a i (Some p) → p.0 < a.count
-  found_inside p f = (at_place width a.desks a.numbers (carried_at [] []) [] a.count i p.0 (names (carried_at [] []) [] (Some p) f).1).0
+  pub found_inside : (p : Place) → Finds a i (Some p) → p.0 < count
+  found_inside p f = (at_place width a.desks a.numbers (carried_at [] []) [] count i p.0 (names (carried_at [] []) [] (Some p) f).1).0
 
   pub found-place : (p : Place) → Finds a i (Some p) → (bs : ℕ → Carried) (ss : List (List ℕ))
-      → place_at width a.count p.0 a.desks a.numbers bs ss ≡ find mark_id i (view width a.count a.desks a.numbers bs ss)
+      → place_at width count p.0 a.desks a.numbers bs ss ≡ find mark_id i (view width count a.desks a.numbers bs ss)
   unfolding place_at
-  found-place p f bs ss = let h = at_place width a.desks a.numbers bs ss a.count i p.0 (names bs ss (Some p) f).1 in rw (lt-ltb p.0 a.count h.0, place_at) (sym h.1)
+  found-place p f bs ss = let h = at_place width a.desks a.numbers bs ss count i p.0 (names bs ss (Some p) f).1 in rw (lt-ltb p.0 count h.0, place_at) (sym h.1)
 
   pub found-mark : (p : Place) → Finds a i (Some p) → (bs : ℕ → Carried) (ss : List (List ℕ))
-      → find mark_id i (view width a.count a.desks a.numbers bs ss) ≡ some (mark_at width a.desks a.numbers bs ss p.0)
-  found-mark p f bs ss = (at_place width a.desks a.numbers bs ss a.count i p.0 (names bs ss (Some p) f).1).1
+      → find mark_id i (view width count a.desks a.numbers bs ss) ≡ some (mark_at width a.desks a.numbers bs ss p.0)
+  found-mark p f bs ss = (at_place width a.desks a.numbers bs ss count i p.0 (names bs ss (Some p) f).1).1
 
-  pub found-absent : Finds a i None → has i (ids (executed_in a)) ≡ false
-  found-absent f = names (carried_at a.boxes a.pasts) a.stamps None f
+  pub found-absent : Finds a i None → (bs : ℕ → Carried) (ss : List (List ℕ)) → has i (ids (view width count a.desks a.numbers bs ss)) ≡ false
+  found-absent f bs ss = names bs ss None f
 
-  pub found-nowhere : Finds a i None → (bs : ℕ → Carried) (ss : List (List ℕ)) → find mark_id i (view width a.count a.desks a.numbers bs ss) ≡ none
-  found-nowhere f bs ss = go (find mark_id i (view width a.count a.desks a.numbers bs ss))
-      (sym (find-has mark_id i (view width a.count a.desks a.numbers bs ss)) ∙ names bs ss None f)
+  pub found-nowhere : Finds a i None → (bs : ℕ → Carried) (ss : List (List ℕ)) → find mark_id i (view width count a.desks a.numbers bs ss) ≡ none
+  found-nowhere f bs ss = go (find mark_id i (view width count a.desks a.numbers bs ss))
+      (sym (find-has mark_id i (view width count a.desks a.numbers bs ss)) ∙ names bs ss None f)
     where
       go : (o : Option Mark) → is_some o ≡ false → o ≡ none
       go none e = refl

@@ -6,7 +6,7 @@ use lib.ListN.{get_or, length, take}
 use mathlib.Core.Bool.{◌||◌, false, or-true, true}
 use mathlib.Core.List.{List, []}
 use mathlib.Core.Logic.{inl, inr}
-use mathlib.Core.Path.{◌∙◌, ◌≡◌, ap, refl, subst, sym}
+use mathlib.Core.Path.{◌∙◌, ◌≡◌, ap, refl, subst}
 use native.Mathlib.Omega.{arith}
 use Rattle.frame.specs.Names.{MarkId}
 use Rattle.causality.specs.Marks.{has, tally}
@@ -17,15 +17,15 @@ use Rattle.causality.proofs.Reach.{sound_counted}
 use Rattle.causality.specs.inner.Order.{CausallyOrdered}
 use Rattle.causality.specs.inner.Passes.{under}
 use Rattle.rows.specs.declared.Executed.{Executed}
-use Rattle.rows.specs.Executed.{marks_to}
-use Rattle.rows.specs.View.{Carried, carried_at, names_down, view, width, name_at}
+use Rattle.rows.specs.Executed.{marks_with}
+use Rattle.rows.specs.View.{Carried, names_down, view, width, name_at}
 use Rattle.rows.specs.inner.Slots.{Named, row_fn}
 use Rattle.rows.proofs.Arrays.{sound_below}
 use Rattle.rows.proofs.Places.{ids-names}
 use Rattle.rows.proofs.RowSteps.{one-turn, pass_ended, pass_rest, pass_step}
 use Rattle.queries.specs.inner.Steps.{AskedOf, ends_at}
 use Rattle.causality.proofs.Lists.{tally_few}
-use Rattle.queries.proofs.Reaching.{reach_end, reach_now, reached, reached_any}
+use Rattle.queries.proofs.Reaching.{reach_end, reach_now, reached}
 use Rattle.rows.proofs.Down.{down-length}
 
 module _ (n : ℕ) (ds ns : List ℕ) (bs : ℕ → Carried) (ss : List (List ℕ)) (i : MarkId) (row : List ℕ) (at : ℕ) where
@@ -54,9 +54,6 @@ module _ (n : ℕ) (ds ns : List ℕ) (bs : ℕ → Carried) (ss : List (List �
   ]
 
 module _ (a : Executed) (row : List ℕ) (at : ℕ) (i : MarkId) where
-  abbrev carried : ℕ → Carried
-  carried = carried_at a.boxes a.pasts
-
   module _ (made : ℕ) (m : made ≡ tally i.desk (names_down at a.desks a.numbers)) where
     -- It ends where it begins, by one of two tests: the row stays.
     module _ (l : length row ≡ width) where
@@ -64,10 +61,10 @@ module _ (a : Executed) (row : List ℕ) (at : ℕ) (i : MarkId) where
       asked_end e = record {
         less = omega arith;
         long = l;
-        counts = λ j h. pass_ended width a.desks a.numbers carried a.stamps (λ d. 0) at at row (omega arith) j;
+        counts = λ bs j h. pass_ended width a.desks a.numbers bs a.stamps (λ d. 0) at at row (omega arith) j;
         standing = m;
         ends = e;
-        first = λ q lo hi. let z : ⊥ = omega arith in absurd z;
+        first = λ bs q lo hi. let z : ⊥ = omega arith in absurd z;
       }
 
       pub asked-counted : i.number ≤ row_fn row i.desk → AskedOf a row at i row made at
@@ -86,15 +83,16 @@ module _ (a : Executed) (row : List ℕ) (at : ℕ) (i : MarkId) where
 
   -- The row once the mark before the place is examined.
   abbrev pub Turned : List ℕ → Type 0
-  Turned next = (j : ℕ) → j < width → get_or next j 0 ≡ under (take (suc (at - 1) - (at - 1)) (marks_to (suc (at - 1)) a)) (λ d. 0) (row_fn row) (suc j)
+  Turned next = (bs : ℕ → Carried) (j : ℕ) → j < width
+      → get_or next j 0 ≡ under (take (suc (at - 1) - (at - 1)) (marks_with bs (suc (at - 1)) a)) (λ d. 0) (row_fn row) (suc j)
 
   pub turned_joined : (next : List ℕ) → get_or a.numbers (at - 1) 0 ≤ row_fn row (get_or a.desks (at - 1) 0)
       → ((j : ℕ) → j < width → get_or next j 0 ≡ max (get_or row j 0) (get_or (get_or a.stamps (at - 1) []) j 0)) → Turned next
-  turned_joined next h e = one-turn width a.desks a.numbers carried a.stamps (λ d. 0) (at - 1) row next
+  turned_joined next h e bs = one-turn width a.desks a.numbers bs a.stamps (λ d. 0) (at - 1) row next
       (inl (le-leb (get_or a.numbers (at - 1) 0) (max 0 (row_fn row (get_or a.desks (at - 1) 0))) (omega arith), e))
 
   pub turned-passed : row_fn row (get_or a.desks (at - 1) 0) < get_or a.numbers (at - 1) 0 → Turned row
-  turned-passed h = one-turn width a.desks a.numbers carried a.stamps (λ d. 0) (at - 1) row row
+  turned-passed h bs = one-turn width a.desks a.numbers bs a.stamps (λ d. 0) (at - 1) row row
       (inr (lt-leb (get_or a.numbers (at - 1) 0) (max 0 (row_fn row (get_or a.desks (at - 1) 0))) (omega arith), refl))
 
   module _ (f : Named width at a.desks) (lo : 1 ≤ i.desk) (hi : i.desk ≤ width) where
@@ -104,12 +102,12 @@ module _ (a : Executed) (row : List ℕ) (at : ℕ) (i : MarkId) where
     asked_on next after made r z turned on w = let l = w.less in record {
       less = omega arith;
       long = w.long;
-      counts = λ j h. w.counts j h ∙ pass_step width a.desks a.numbers carried a.stamps (λ d. 0) at r (omega arith) f row next turned (suc j) (omega arith) h;
+      counts = λ bs j h. w.counts bs j h ∙ pass_step width a.desks a.numbers bs a.stamps (λ d. 0) at r (omega arith) f row next (turned bs) (suc j) (omega arith) h;
       standing = w.standing;
       ends = w.ends;
-      first = λ q low high. elim (split (leb q (at - 1))) [
+      first = λ bs q low high. elim (split (leb q (at - 1))) [
         | inl t ↦ let m = leb→le q (at - 1) t in subst (λ (x : ℕ). ends_at a i q x ≡ false)
-            (pass_step width a.desks a.numbers carried a.stamps (λ d. 0) at q (omega arith) f row next turned i.desk lo hi) (w.first q low m)
+            (pass_step width a.desks a.numbers bs a.stamps (λ d. 0) at q (omega arith) f row next (turned bs) i.desk lo hi) (w.first bs q low m)
         | inr t ↦ let m = nleb→lt q (at - 1) t in
             let e : q ≡ at = omega arith in
             let y : at - at ≡ 0 = omega arith in
@@ -120,9 +118,7 @@ module _ (a : Executed) (row : List ℕ) (at : ℕ) (i : MarkId) where
     module _ (after : List ℕ) (made r : ℕ) (w : AskedOf a row at i after made r) where
       -- The row reaches there what it reached before, whatever else the marks carry.
       pub asked-reaches : (bs : ℕ → Carried) → reached width a.desks a.numbers bs a.stamps r after i.desk ≡ reached width a.desks a.numbers bs a.stamps at row i.desk
-      asked-reaches bs = reached_any width a.desks a.numbers bs a.stamps carried r after i.desk
-          ∙ pass_rest width a.desks a.numbers carried a.stamps (λ d. 0) at r w.less f row after w.counts i.desk lo hi
-          ∙ sym (reached_any width a.desks a.numbers bs a.stamps carried at row i.desk)
+      asked-reaches bs = pass_rest width a.desks a.numbers bs a.stamps (λ d. 0) at r w.less f row after (w.counts bs) i.desk lo hi
 
       -- It counts the mark if it reaches it.
       pub asked-told : (bs : ℕ → Carried) → CausallyOrdered (view width at a.desks a.numbers bs a.stamps)

@@ -12,10 +12,10 @@ use Rattle.causality.specs.Marks.{tally}
 use Rattle.causality.specs.State.{ids}
 use Rattle.causality.proofs.Logic.{T→eq, nT→eq, split}
 use Rattle.causality.specs.inner.Order.{Consecutive}
-use Rattle.executed.specs.inner.Rows.{Lent, last_in}
+use Rattle.executed.specs.inner.Rows.{LentTo, last_in}
 use Rattle.rows.specs.declared.Executed.{Executed}
-use Rattle.rows.specs.Executed.{marks_to}
-use Rattle.rows.specs.View.{carried_at, name_at, names_down, width}
+use Rattle.rows.specs.Executed.{marks_with}
+use Rattle.rows.specs.View.{Carried, name_at, names_down, width}
 use Rattle.rows.proofs.Places.{ids-names}
 use Rattle.queries.specs.inner.Steps.{MadeBefore}
 use Rattle.rows.proofs.Down.{down_last, down-length, down-less}
@@ -76,18 +76,18 @@ module _ (ds ns : List ℕ) where
 
 module _ (a : Executed) (d p : ℕ) where
   pub made_all : 1 ≤ d → d ≤ width → get_or a.last (d - 1) 0 ≤ p → MadeBefore a d p (get_or a.tally (d - 1) 0)
-  made_all lo hi h l b =
+  made_all lo hi h count l b =
       let c = l.chain in
       let e : suc (d - 1) ≡ d = omega arith in
-      let g = c.last (d - 1) (omega arith) ∙ ap (λ (x : ℕ). last_in x (names_down a.count a.desks a.numbers)) e in
-      c.tally (d - 1) (omega arith) ∙ ap (λ (x : ℕ). tally x (names_down a.count a.desks a.numbers)) e ∙ all_before a.desks a.numbers d a.count p b (omega arith)
+      let g = c.last (d - 1) (omega arith) ∙ ap (λ (x : ℕ). last_in x (names_down count a.desks a.numbers)) e in
+      c.tally (d - 1) (omega arith) ∙ ap (λ (x : ℕ). tally x (names_down count a.desks a.numbers)) e ∙ all_before a.desks a.numbers d count p b (omega arith)
 
   pub made_none : (q : ℕ) → NoneDown a.desks a.numbers d p q → q ≤ 0 → MadeBefore a d p 0
-  made_none q w z l b = let e : q ≡ 0 = omega arith in sym (w.1 ∙ ap (λ (x : ℕ). tally d (names_down x a.desks a.numbers)) e)
+  made_none q w z count l b = let e : q ≡ 0 = omega arith in sym (w.1 ∙ ap (λ (x : ℕ). tally d (names_down x a.desks a.numbers)) e)
 
   pub made_met : (q : ℕ) → NoneDown a.desks a.numbers d p q → 0 < q → get_or a.desks (q - 1) 0 ≡ d → MadeBefore a d p (get_or a.numbers (q - 1) 0)
-  made_met q w z e l b = met a.desks a.numbers d p q w z e (counted-less a.desks a.numbers a.count p b l.chain.counted)
+  made_met q w z e count l b = met a.desks a.numbers d p q w z e (counted-less a.desks a.numbers count p b l.chain.counted)
 
-module _ (a : Executed) (p d made : ℕ) (l : Lent a) (m : MadeBefore a d p made) (h : p ≤ a.count) where
-  pub made-first : made ≡ tally d (ids (marks_to p a))
-  made-first = m l h ∙ ap (tally d) (sym (ids-names width a.desks a.numbers (carried_at a.boxes a.pasts) a.stamps p))
+module _ (a : Executed) (p d made count : ℕ) (l : LentTo count a) (m : MadeBefore a d p made) (h : p ≤ count) where
+  pub made-first : (bs : ℕ → Carried) → made ≡ tally d (ids (marks_with bs p a))
+  made-first bs = m count l h ∙ ap (tally d) (sym (ids-names width a.desks a.numbers bs a.stamps p))

@@ -16,11 +16,11 @@ use Rattle.causality.specs.Marks.{find, has, places, same}
 use Rattle.causality.specs.State.{Mark, State, ids, mark_id, precedes}
 use Rattle.causality.proofs.Logic.{T→eq, nT→eq, same_refl, same→eq}
 use Rattle.causality.specs.inner.Order.{CausallyOrdered}
-use Rattle.executed.specs.inner.Rows.{Finds, HasChain, Lent}
+use Rattle.executed.specs.inner.Rows.{Finds, HasChain, LentTo}
 use Rattle.executed.proofs.Chain.{found-absent, found_inside, found-place}
 use Rattle.rows.specs.declared.Executed.{Executed}
-use Rattle.rows.specs.Executed.{executed_in}
-use Rattle.rows.specs.View.{Carried, carried_at, name_at, view, width}
+use Rattle.rows.specs.Executed.{marks_with}
+use Rattle.rows.specs.View.{Carried, name_at, view, width}
 use Rattle.rows.specs.inner.Slots.{Named, place_at}
 use Rattle.rows.proofs.RowSteps.{named-less}
 use Rattle.rows.proofs.Places.{found_some, has-at, not_before, precedes_no_earlier}
@@ -92,44 +92,41 @@ module _ (n count : ℕ) (ds ns : List ℕ) (bs : ℕ → Carried) (ss : List (L
 
 -- They can be searched.
 pub lent_chain : (e : Executed) → HasLent e → HasChain e
-lent_chain e l = record { names = _; chain = l.chain }
+lent_chain e l = record { names = _; chain = l.marks.chain }
 
 -- The marks below the place of one that is found are of desks.
-pub named_found : (e : Executed) → HasLent e → (a : MarkId) (p : Place) → Finds e a (Some p) → (p.0 < places) × Named width p.0 e.desks
-named_found e l a p f =
-    let i = found_inside e l a p f in
+pub named_found : (count : ℕ) (e : Executed) → LentTo count e → (a : MarkId) (p : Place) → Finds e a (Some p) → (p.0 < places) × Named width p.0 e.desks
+named_found count e l a p f =
+    let i = found_inside count e l a p f in
     let few = l.few in
-    (omega arith, named-less width e.count e.desks p.0 l.named (omega arith))
+    (omega arith, named-less width count e.desks p.0 l.named (omega arith))
 
-module _ (e : Executed) (l : Lent e) (own : ℕ) (waiting : List Mark) (a b : MarkId) where
-  pub relate_no_first : Finds e a None → relate (queried_state e own waiting) a b ≡ refused 12
-  relate_no_first f = no_first (queried_state e own waiting) a b (found-absent e l a f)
+module _ (count : ℕ) (e : Executed) (l : LentTo count e) (own : ℕ) (bs : ℕ → Carried) (waiting : List Mark) (a b : MarkId) where
+  pub relate_no_first : Finds e a None → relate (queried_state e count own bs waiting) a b ≡ refused 12
+  relate_no_first f = no_first (queried_state e count own bs waiting) a b (found-absent count e l a f bs e.stamps)
 
-  pub relate_no_second : Finds e b None → relate (queried_state e own waiting) a b ≡ refused 12
-  relate_no_second f = no_second (queried_state e own waiting) a b (found-absent e l b f)
+  pub relate_no_second : Finds e b None → relate (queried_state e count own bs waiting) a b ≡ refused 12
+  relate_no_second f = no_second (queried_state e count own bs waiting) a b (found-absent count e l b f bs e.stamps)
 
   module _ (p q : Place) (fa : Finds e a (Some p)) (fb : Finds e b (Some q)) where
-    abbrev carried : ℕ → Carried
-    carried = carried_at e.boxes e.pasts
+    at_first : place_at width count p.0 e.desks e.numbers bs e.stamps ≡ find mark_id a (marks_with bs count e)
+    at_first = found-place count e l a p fa bs e.stamps
 
-    at_first : place_at width e.count p.0 e.desks e.numbers carried e.stamps ≡ find mark_id a (executed_in e)
-    at_first = found-place e l a p fa carried e.stamps
+    at_second : place_at width count q.0 e.desks e.numbers bs e.stamps ≡ find mark_id b (marks_with bs count e)
+    at_second = found-place count e l b q fb bs e.stamps
 
-    at_second : place_at width e.count q.0 e.desks e.numbers carried e.stamps ≡ find mark_id b (executed_in e)
-    at_second = found-place e l b q fb carried e.stamps
+    inside : (p.0 < count) × (q.0 < count)
+    inside = (found_inside count e l a p fa, found_inside count e l b q fb)
 
-    inside : (p.0 < e.count) × (q.0 < e.count)
-    inside = (found_inside e l a p fa, found_inside e l b q fb)
-
-    pub relate-same : p.0 ≡ q.0 → relate (queried_state e own waiting) a b ≡ gives Same
-    relate-same = same_place width e.count e.desks e.numbers carried e.stamps own waiting a b p.0 q.0 at_first at_second inside.0 inside.1
+    pub relate-same : p.0 ≡ q.0 → relate (queried_state e count own bs waiting) a b ≡ gives Same
+    relate-same = same_place width count e.desks e.numbers bs e.stamps own waiting a b p.0 q.0 at_first at_second inside.0 inside.1
 
     -- r says whether the earlier mark precedes the later one, and is u.
-    module _ (s : CausallyOrdered (executed_in e)) (r u : Bool) (v : r ≡ u) where
-      pub relate_forward : p.0 < q.0 → PrecedesAt e p.0 q.0 r → relate (queried_state e own waiting) a b ≡ gives (elim u [ true ↦ Before | false ↦ Concurrent ])
+    module _ (s : CausallyOrdered (marks_with bs count e)) (r u : Bool) (v : r ≡ u) where
+      pub relate_forward : p.0 < q.0 → PrecedesAt e p.0 q.0 r → relate (queried_state e count own bs waiting) a b ≡ gives (elim u [ true ↦ Before | false ↦ Concurrent ])
       relate_forward o w =
-          forward width e.count e.desks e.numbers carried e.stamps own waiting a b p.0 q.0 at_first at_second inside.0 inside.1 s o u (sym v ∙ w e.count inside.1 s)
+          forward width count e.desks e.numbers bs e.stamps own waiting a b p.0 q.0 at_first at_second inside.0 inside.1 s o u (sym v ∙ w count inside.1 bs s)
 
-      pub relate_back : q.0 < p.0 → PrecedesAt e q.0 p.0 r → relate (queried_state e own waiting) a b ≡ gives (elim u [ true ↦ After | false ↦ Concurrent ])
+      pub relate_back : q.0 < p.0 → PrecedesAt e q.0 p.0 r → relate (queried_state e count own bs waiting) a b ≡ gives (elim u [ true ↦ After | false ↦ Concurrent ])
       relate_back o w =
-          back width e.count e.desks e.numbers carried e.stamps own waiting a b p.0 q.0 at_first at_second inside.0 inside.1 s o u (sym v ∙ w e.count inside.0 s)
+          back width count e.desks e.numbers bs e.stamps own waiting a b p.0 q.0 at_first at_second inside.0 inside.1 s o u (sym v ∙ w count inside.0 bs s)

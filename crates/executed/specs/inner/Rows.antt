@@ -59,11 +59,15 @@ pub record HasChain (a : Executed) : Type 0 where
 abbrev pub Finds : Executed → MarkId → Option Place → Type 0
 Finds a i r = (is : List MarkId) → Chain is a.tally a.last a.before → PlaceOf is i r
 
--- What a query rests on: the marks below the count, of desks 1 to the width, with their tally and chain.
-pub record Lent (a : Executed) : Type 0 where
-  pub few : a.count ≤ places
-  pub named : Named width a.count a.desks
-  pub chain : Chain (names_down a.count a.desks a.numbers) a.tally a.last a.before
+-- What a query rests on: the first `count` marks, of desks 1 to the width, with their tally and chain.
+pub record LentTo (count : ℕ) (a : Executed) : Type 0 where
+  pub few : count ≤ places
+  pub named : Named width count a.desks
+  pub chain : Chain (names_down count a.desks a.numbers) a.tally a.last a.before
+
+-- All the marks.
+abbrev pub Lent : Executed → Type 0
+Lent a = LentTo a.count a
 
 -- A head h of a desk, after a stamp that names mark x of that desk.
 abbrev pub struck : ℕ → ℕ → ℕ

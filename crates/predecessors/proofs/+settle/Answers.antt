@@ -1,6 +1,6 @@
 -- `settle` meets its contract: it stops where the rows are final; else the mark at the last place is examined, the tally falls, and so does the place.
 use mathlib.Core.Path.{◌∙◌, subst, sym}
-use Rattle.rows.specs.View.{carried_at, width}
+use Rattle.rows.specs.View.{width}
 use Rattle.rows.specs.inner.Slots.{row_fn}
 use Rattle.rows.proofs.RowSteps.{named-less, pass_ended, pass_step}
 use Rattle.predecessors.proofs.SettleLaws.{counted-at, tally-less, tally-some}
@@ -17,7 +17,7 @@ returns-then-covered t c =
       within = omega arith;
       traced = record {
         long = omega arith;
-        counts = λ j h. pass_ended width a.executed.now.desks a.executed.now.numbers (carried_at a.executed.now.boxes a.executed.now.pasts) a.executed.now.stamps (row_fn a.entries.now) a.at.0 a.at.0 a.below.now (omega arith) j;
+        counts = λ bs j h. pass_ended width a.executed.now.desks a.executed.now.numbers bs a.executed.now.stamps (row_fn a.entries.now) a.at.0 a.at.0 a.below.now (omega arith) j;
       };
       covers = λ d p q. subst (λ (x : ℕ). x ≤ max (row_fn a.entries.now d) (row_fn a.below.now d)) (c.requires.2.1 d p q)
           (counted-at a.entries.now a.below.now a.tally.now width (sym c.covered.ensures ∙ c.if-covered.true) d p q);
@@ -51,8 +51,8 @@ returns t c =
       within = omega arith;
       traced = record {
         long = r.traced.long;
-        counts = λ j h. r.traced.counts j h ∙ pass_step width m.desks m.numbers (carried_at m.boxes m.pasts) m.stamps (row_fn a.entries.now) a.at.0 r.place (omega arith) c.requires.1
-            a.below.now c.examine.new.below c.examine.ensures.counts (suc j) (omega arith) h;
+        counts = λ bs j h. r.traced.counts bs j h ∙ pass_step width m.desks m.numbers bs m.stamps (row_fn a.entries.now) a.at.0 r.place (omega arith) c.requires.1
+            a.below.now c.examine.new.below (c.examine.ensures.counts bs) (suc j) (omega arith) h;
       };
       covers = r.covers;
     }
