@@ -13,13 +13,13 @@ use native.Mathlib.Numerals.{add-one}
 use native.Mathlib.Omega.{arith}
 use Rattle.causality.specs.Marks.{lower, lowest}
 use Rattle.causality.specs.State.{Mark, mark_id, ready}
-use Rattle.rows.specs.View.{box_at, down_from, past_from, view, width}
+use Rattle.rows.specs.View.{Carried, down_from, view, width}
 use Rattle.rows.specs.inner.Slots.{Named}
 use Rattle.predecessors.specs.inner.Steps.{missing_by}
 use Rattle.predecessors.proofs.MissingLaws.{ready_by_tally}
 use Rattle.rows.proofs.RowSteps.{named-at}
 use Rattle.waiting.specs.declared.Waiting.{Waiting}
-use Rattle.waiting.specs.Queue.{waiting_at, waiting_in}
+use Rattle.waiting.specs.Queue.{slot_with, slots_with}
 use Rattle.waiting.specs.inner.Steps.{HasSlot, LowestAt, TallyOf, mark_of_slot, named}
 
 lower-new : (h v : Mark) → h.id.desk ≤ v.id.desk → lower mark_id h (some v) ≡ h
@@ -42,11 +42,11 @@ module _ (m : ℕ → Mark) (t : Mark → Bool) (i : ℕ) where
   chosen_passed b w e = rw (add-one i, e, lowest) w
 
 -- The readiness of slot i, by the tally.
-ready_slot : (q : Waiting) (t : List ℕ) (l : List Mark) (i : ℕ) → TallyOf width l t → Named width q.count q.desks → i < q.count
-    → ready l (waiting_at q i) ≡ eqb (missing_by width t (get_or q.desks i 0) (get_or q.numbers i 0) (get_or q.stamps i [])) 0
-ready_slot q t l i ts d h =
+ready_slot : (q : Waiting) (t : List ℕ) (l : List Mark) (bs : ℕ → Carried) (i : ℕ) → TallyOf width l t → Named width q.count q.desks → i < q.count
+    → ready l (slot_with bs q.stamps q i) ≡ eqb (missing_by width t (get_or q.desks i 0) (get_or q.numbers i 0) (get_or q.stamps i [])) 0
+ready_slot q t l bs i ts d h =
     let f = named-at width q.count q.desks i d h in
-    ready_by_tally width l ts.counted t (get_or q.stamps i []) ts.tallied (named (get_or q.desks i 0) (get_or q.numbers i 0)) (box_at q.boxes i) (past_from (get_or q.pasts i 0)) f.0 f.1
+    ready_by_tally width l ts.counted t (get_or q.stamps i []) ts.tallied (named (get_or q.desks i 0) (get_or q.numbers i 0)) (bs i).extent (bs i).past f.0 f.1
 
 -- The desk of the slot, or one that none is above.
 abbrev LowDesk : List ℕ → ℕ → Maybe ℕ → Type 0
@@ -57,25 +57,26 @@ LowDesk ds low (Some s) = get_or ds s 0 ≡ low
 pub record Lowering (q : Waiting) (t : List ℕ) (b : Maybe ℕ) (low i : ℕ) : Type 0 where
   pub inside : HasSlot q.count b
   pub desk : LowDesk q.desks low b
-  pub chosen : (l : List Mark) → TallyOf width l t → mark_of_slot (waiting_at q) b ≡ lowest mark_id (ready l) (down_from (waiting_at q) i)
+  pub chosen : (l : List Mark) (bs : ℕ → Carried) → TallyOf width l t
+      → mark_of_slot (slot_with bs q.stamps q) b ≡ lowest mark_id (ready l) (down_from (slot_with bs q.stamps q) i)
 
 module _ (q : Waiting) (t : List ℕ) where
   pub lowering_none : Lowering q t None 255 0
-  lowering_none = record { inside = tt; desk = omega arith; chosen = λ l ts. refl }
+  lowering_none = record { inside = tt; desk = omega arith; chosen = λ l bs ts. refl }
 
   pub lowering_all : (b : Maybe ℕ) (low i : ℕ) → Lowering q t b low i → i ≡ q.count → LowestAt t q b
   unfolding view
-  lowering_all b low i w e = record { inside = w.inside; mark = λ l ts. w.chosen l ts ∙ whole l }
+  lowering_all b low i w e = record { inside = w.inside; mark = λ l bs ts. w.chosen l bs ts ∙ whole l bs }
     where
-      whole : (l : List Mark) → lowest mark_id (ready l) (down_from (waiting_at q) i) ≡ lowest mark_id (ready l) (waiting_in q)
-      whole l = ap (λ (k : ℕ). lowest mark_id (ready l) (down_from (waiting_at q) k)) e
+      whole : (l : List Mark) (bs : ℕ → Carried) → lowest mark_id (ready l) (down_from (slot_with bs q.stamps q) i) ≡ lowest mark_id (ready l) (slots_with bs q.stamps q)
+      whole l bs = ap (λ (k : ℕ). lowest mark_id (ready l) (down_from (slot_with bs q.stamps q) k)) e
 
   module _ (d : Named width q.count q.desks) (low i r : ℕ) (h : i < q.count) (e : r ≡ missing_by width t (get_or q.desks i 0) (get_or q.numbers i 0) (get_or q.stamps i [])) where
-    by : (x : Bool) → eqb r 0 ≡ x → (l : List Mark) → TallyOf width l t → ready l (waiting_at q i) ≡ x
-    by x z l ts = ready_slot q t l i ts d h ∙ ap (λ (k : ℕ). eqb k 0) (sym e) ∙ z
+    by : (x : Bool) → eqb r 0 ≡ x → (l : List Mark) (bs : ℕ → Carried) → TallyOf width l t → ready l (slot_with bs q.stamps q i) ≡ x
+    by x z l bs ts = ready_slot q t l bs i ts d h ∙ ap (λ (k : ℕ). eqb k 0) (sym e) ∙ z
 
     pub lowering_taken : (b : Maybe ℕ) → Lowering q t b low i → r ≡ 0 → get_or q.desks i 0 ≤ low → Lowering q t (Some i) (get_or q.desks i 0) (i + 1)
-    lowering_taken b w z a = record { inside = h; desk = refl; chosen = λ l ts. chosen_taken (waiting_at q) (ready l) i b (w.chosen l ts) (by true (eq-eqb r 0 z) l ts) (below b w.desk) }
+    lowering_taken b w z a = record { inside = h; desk = refl; chosen = λ l bs ts. chosen_taken (slot_with bs q.stamps q) (ready l) i b (w.chosen l bs ts) (by true (eq-eqb r 0 z) l bs ts) (below b w.desk) }
       where
         below : (b : Maybe ℕ) → LowDesk q.desks low b → IfSome b (λ s. get_or q.desks i 0 ≤ get_or q.desks s 0)
         below None o = tt
@@ -83,14 +84,15 @@ module _ (q : Waiting) (t : List ℕ) where
 
     -- It is not ready, or not of so low a desk.
     pub lowering_kept : (b : Maybe ℕ) → Lowering q t b low i → (r ≡ 0 → ⊥) ⊎ (low < get_or q.desks i 0) → Lowering q t b low (i + 1)
-    lowering_kept b w o = record { inside = w.inside; desk = w.desk; chosen = λ l ts. kept b w.desk o l ts (w.chosen l ts) }
+    lowering_kept b w o = record { inside = w.inside; desk = w.desk; chosen = λ l bs ts. kept b w.desk o l bs ts (w.chosen l bs ts) }
       where
-        kept : (b : Maybe ℕ) → LowDesk q.desks low b → (r ≡ 0 → ⊥) ⊎ (low < get_or q.desks i 0) → (l : List Mark) → TallyOf width l t
-            → mark_of_slot (waiting_at q) b ≡ lowest mark_id (ready l) (down_from (waiting_at q) i) → mark_of_slot (waiting_at q) b ≡ lowest mark_id (ready l) (down_from (waiting_at q) (i + 1))
-        kept b k (inl f) l ts c = chosen_passed (waiting_at q) (ready l) i b c (by false (ne_eqb r 0 f) l ts)
-        kept None k (inr f) l ts c = let x = named-at width q.count q.desks i d h in let y = x.1 in let z : ⊥ = omega arith in absurd z
-        kept (Some s) k (inr f) l ts c = one (eqb r 0) refl
+        kept : (b : Maybe ℕ) → LowDesk q.desks low b → (r ≡ 0 → ⊥) ⊎ (low < get_or q.desks i 0) → (l : List Mark) (bs : ℕ → Carried) → TallyOf width l t
+            → mark_of_slot (slot_with bs q.stamps q) b ≡ lowest mark_id (ready l) (down_from (slot_with bs q.stamps q) i)
+            → mark_of_slot (slot_with bs q.stamps q) b ≡ lowest mark_id (ready l) (down_from (slot_with bs q.stamps q) (i + 1))
+        kept b k (inl f) l bs ts c = chosen_passed (slot_with bs q.stamps q) (ready l) i b c (by false (ne_eqb r 0 f) l bs ts)
+        kept None k (inr f) l bs ts c = let x = named-at width q.count q.desks i d h in let y = x.1 in let z : ⊥ = omega arith in absurd z
+        kept (Some s) k (inr f) l bs ts c = one (eqb r 0) refl
           where
-            one : (x : Bool) → eqb r 0 ≡ x → some (waiting_at q s) ≡ lowest mark_id (ready l) (down_from (waiting_at q) (i + 1))
-            one true z = chosen_kept (waiting_at q) (ready l) i s c (by true z l ts) (omega arith)
-            one false z = chosen_passed (waiting_at q) (ready l) i (Some s) c (by false z l ts)
+            one : (x : Bool) → eqb r 0 ≡ x → some (slot_with bs q.stamps q s) ≡ lowest mark_id (ready l) (down_from (slot_with bs q.stamps q) (i + 1))
+            one true z = chosen_kept (slot_with bs q.stamps q) (ready l) i s c (by true z l bs ts) (omega arith)
+            one false z = chosen_passed (slot_with bs q.stamps q) (ready l) i (Some s) c (by false z l bs ts)
