@@ -13,14 +13,14 @@ use Rattle.frame.specs.declared.Past.TheVariants.{Said}
 use Rattle.frame.specs.Frame.{past_bad}
 use Rattle.frame.specs.Names.{desks, pasts}
 use Rattle.causality.specs.Calls.{release, rules}
-use Rattle.causality.specs.Marks.{lowest, places, tally, waiting_places, without}
+use Rattle.causality.specs.Marks.{has, lowest, places, tally, waiting_places, without}
 use Rattle.causality.specs.State.{Mark, false_stamp, ids, mark_id, ready, reckoned, with_past}
 use Rattle.causality.specs.inner.Fit.{Fit}
 use Rattle.causality.proofs.Logic.{nT→eq}
 use Rattle.causality.proofs.Reach.{sound_counted}
 use Rattle.causality.proofs.Releases.{release_drops, release_rests, release-runs}
 use Rattle.rows.specs.View.{carried_at, past_from, width}
-use Rattle.rows.specs.inner.Slots.{Named, held_mark, held_with}
+use Rattle.rows.specs.inner.Slots.{Named, held_id, held_mark, held_with}
 use Rattle.rows.specs.declared.Held.{Held}
 use Rattle.rows.proofs.Arrays.{view-length}
 use Rattle.rows.proofs.ByRows.{row_at_lem}
@@ -31,7 +31,8 @@ use Rattle.waiting.specs.Queue.{waiting_at, waiting_in}
 use Rattle.waiting.specs.inner.Steps.{LowestAt, Removed, mark_of_slot}
 use Rattle.waiting.specs.declared.Waiting.{Waiting}
 use Rattle.waiting.proofs.UseLaws.{fit_named}
-use Rattle.verdict.specs.inner.Steps.{ReadyIn}
+use Rattle.rows.proofs.Places.{ids-names}
+use Rattle.verdict.specs.inner.Steps.{ReadyIn, Reckons, kept_by, past_kept}
 use Rattle.arrivals.specs.declared.Released.{Released}
 use Rattle.arrivals.specs.inner.Steps.{Midway, ReleasePromise, Turned, Turns, dropped_by, executed_by}
 use Rattle.arrivals.proofs.Releasing.{between_dropped, between_executed, next_fit, next_fresh, next_ready, next_sound, said_few}
@@ -56,7 +57,7 @@ module _ (a : Executed) (q : Waiting) (m : Midway a q) where
 
   -- The slot that the readiness test chose, or none.
   pub chosen_is : (r : Maybe ℕ) → LowestAt a.tally q r → mark_of_slot (waiting_at q) r ≡ lowest mark_id (ready (executed_in a)) (waiting_in q)
-  chosen_is r w = w.mark (executed_in a) (record {
+  chosen_is r w = w.mark (executed_in a) (carried_at q.boxes q.pasts) (record {
     counted = sound_counted (executed_in a) m.between.sound;
     tallied = row_at_lem width a.tally (λ e. tally e (ids (executed_in a))) m.ordered.rows.tally;
   })
@@ -70,6 +71,10 @@ module _ (a : Executed) (q : Waiting) (i : ℕ) (t : Turns a q i) (h : Held) (eh
   chosen : lowest mark_id (ready (executed_in a)) (waiting_in q) ≡ some (held_mark h)
   chosen = sym t.next ∙ ap some (sym eh)
 
+  -- What was kept of its past.
+  pub turn_kept : (r : Maybe ℕ) → Reckons a h r → kept_by r ≡ past_kept (executed_in a) (held_mark h)
+  turn_kept r w = w (carried_at a.boxes a.pasts) m.between.sound (next_ready (executed_in a) (waiting_in q) (held_mark h) m.between chosen)
+
   pub turn_fit : Fit desks (held_mark h)
   turn_fit = next_fit (executed_in a) (waiting_in q) (held_mark h) m.between chosen
 
@@ -80,11 +85,13 @@ module _ (a : Executed) (q : Waiting) (i : ℕ) (t : Turns a q i) (h : Held) (eh
   turn-ready = record {
     new = record {
       marks = record {
+        carried = carried_at a.boxes a.pasts;
         sound = m.between.sound;
         long = m.ordered.rows.long_tally;
         tallied = row_at_lem width a.tally (λ e. tally e (ids (executed_in a))) m.ordered.rows.tally;
       };
-      fresh = nT→eq _ (next_fresh (executed_in a) (waiting_in q) (held_mark h) m.between chosen);
+      fresh = ap (has (held_id h)) (sym (ids-names width a.desks a.numbers (carried_at a.boxes a.pasts) a.stamps a.count))
+          ∙ nT→eq _ (next_fresh (executed_in a) (waiting_in q) (held_mark h) m.between chosen);
     };
     ready = turn-is-ready;
   }

@@ -3,6 +3,9 @@ use Rattle.arrivals.proofs.Arriving.{promise_runs, runs_few, runs_midway, runs_t
 use Rattle.arrivals.proofs.Releasing.{next_fits}
 use Rattle.arrivals.proofs.arrive.arrive.Goals as goal
 
+pub judge-requires-clause-kept : goal.judge-requires-clause-kept
+judge-requires-clause-kept c = record { heads = c.args.executed.now.heads; kept = c.requires.kept }
+
 pub push-requires : goal.push-requires
 push-requires c = let k = c.requires.kept in (k.queued, waits_room _ _ _ k c.args.h.now c.in-Waits.short (rw c.in-Waits.is at c.in_ok-judge.ensures))
 
