@@ -18,11 +18,11 @@ use Rattle.causality.proofs.Apart.{above_no, above-yes, lowest_above}
 use Rattle.causality.proofs.Logic.{T→eq, nT→eq, same_refl, same→eq, split}
 use Rattle.causality.specs.inner.Order.{CausallyOrdered}
 use Rattle.causality.proofs.Tail.{first_of_run}
-use Rattle.executed.specs.inner.Rows.{Finds, Lent}
+use Rattle.executed.specs.inner.Rows.{Finds, LentTo}
 use Rattle.executed.proofs.Chain.{found-absent, found_inside, found-place}
 use Rattle.rows.specs.declared.Executed.{Executed}
-use Rattle.rows.specs.Executed.{executed_in, mark_in, marks_to}
-use Rattle.rows.specs.View.{Carried, carried_at, mark_at, view, width}
+use Rattle.rows.specs.Executed.{marks_with}
+use Rattle.rows.specs.View.{Carried, mark_at, view, width}
 use Rattle.rows.proofs.Places.{found_some, has-at, not_before}
 use Rattle.queries.specs.inner.Lent.{queried_state}
 use Rattle.queries.specs.inner.Steps.{MadeBefore}
@@ -63,33 +63,31 @@ module _ (n : ℕ) (ds ns : List ℕ) (bs : ℕ → Carried) (ss : List (List �
 -- EXECUTED MARKS THAT ARE LENT
 
 module _ (e : Executed) where
-  abbrev carried : ℕ → Carried
-  carried = carried_at e.boxes e.pasts
-
   -- Of a desk's marks before place p those with numbers up to R precede that at p: the lowest of the others.
-  first-at : (p : ℕ) → CausallyOrdered (executed_in e) → p < e.count → (d R : ℕ) → FirstRunAt e p d (tally d (ids (marks_to p e))) R
-      → lowest_number d (keep (concurrent (executed_in e) (mark_in e p).id) (earlier (mark_in e p).id (ids (executed_in e)))) ≡ lowest_above R (tally d (ids (marks_to p e)))
-  first-at p s h d R run =
-      let m = ap (tally d) (earlier-at width e.desks e.numbers carried e.stamps e.count p s h) in
-      first_of_run (executed_in e) s (mark_in e p).id d R (λ k lo hi. run e.count h s k lo (rw m at hi)) ∙ ap (lowest_above R) m
+  first-at : (count p : ℕ) (bs : ℕ → Carried) → CausallyOrdered (marks_with bs count e) → p < count → (d R : ℕ) → FirstRunAt e p d (tally d (ids (marks_with bs p e))) R
+      → lowest_number d (keep (concurrent (marks_with bs count e) (mark_at width e.desks e.numbers bs e.stamps p).id) (earlier (mark_at width e.desks e.numbers bs e.stamps p).id (ids (marks_with bs count e))))
+      ≡ lowest_above R (tally d (ids (marks_with bs p e)))
+  first-at count p bs s h d R run =
+      let m = ap (tally d) (earlier-at width e.desks e.numbers bs e.stamps count p s h) in
+      first_of_run (marks_with bs count e) s (mark_at width e.desks e.numbers bs e.stamps p).id d R (λ k lo hi. run count bs h s k lo (rw m at hi)) ∙ ap (lowest_above R) m
 
-  module _ (l : Lent e) (own : ℕ) (waiting : List Mark) (a : MarkId) (d : ℕ) (k : is_desk width d ≡ true) where
-    pub first-none : Finds e a None → refused 12 ≡ first_apart width (queried_state e own waiting) a d
-    first-none f = sym (answer_as width (queried_state e own waiting) a d true false _ k (found-absent e l a f) refl)
+  module _ (count : ℕ) (l : LentTo count e) (own : ℕ) (bs : ℕ → Carried) (waiting : List Mark) (a : MarkId) (d : ℕ) (k : is_desk width d ≡ true) where
+    pub first-none : Finds e a None → refused 12 ≡ first_apart width (queried_state e count own bs waiting) a d
+    first-none f = sym (answer_as width (queried_state e count own bs waiting) a d true false _ k (found-absent count e l a f bs e.stamps) refl)
 
     -- So many of the desk's marks stand before the place, of which the first R precede.
-    module _ (p : Place) (f : Finds e a (Some p)) (s : CausallyOrdered (executed_in e)) (R made : ℕ) (m : MadeBefore e d p.0 made) (told : FirstRunAt e p.0 d made R) where
-      lowest : first_apart width (queried_state e own waiting) a d ≡ gives (lowest_above R made)
+    module _ (p : Place) (f : Finds e a (Some p)) (s : CausallyOrdered (marks_with bs count e)) (R made : ℕ) (m : MadeBefore e d p.0 made) (told : FirstRunAt e p.0 d made R) where
+      lowest : first_apart width (queried_state e count own bs waiting) a d ≡ gives (lowest_above R made)
       lowest =
-          let i = found_inside e l a p f in
-          let n = made-first e p.0 d made l m (omega arith) in
-          let x = found_some width e.desks e.numbers carried e.stamps e.count p.0 a i (found-place e l a p f carried e.stamps) in
-          answer_as width (queried_state e own waiting) a d true true _ k (T→eq (has a (ids (executed_in e))) x.2)
-          (subst (λ (j : MarkId). lowest_number d (keep (concurrent (executed_in e) j) (earlier j (ids (executed_in e)))) ≡ lowest_above R (tally d (ids (marks_to p.0 e)))) x.1
-          (first-at p.0 s i d R (subst (λ (j : ℕ). FirstRunAt e p.0 d j R) n told)) ∙ ap (lowest_above R) (sym n))
+          let i = found_inside count e l a p f in
+          let n = made-first e p.0 d made count l m (omega arith) bs in
+          let x = found_some width e.desks e.numbers bs e.stamps count p.0 a i (found-place count e l a p f bs e.stamps) in
+          answer_as width (queried_state e count own bs waiting) a d true true _ k (T→eq (has a (ids (marks_with bs count e))) x.2)
+          (subst (λ (j : MarkId). lowest_number d (keep (concurrent (marks_with bs count e) j) (earlier j (ids (marks_with bs count e)))) ≡ lowest_above R (tally d (ids (marks_with bs p.0 e)))) x.1
+          (first-at count p.0 bs s i d R (subst (λ (j : ℕ). FirstRunAt e p.0 d j R) n told)) ∙ ap (lowest_above R) (sym n))
 
-      pub first_number : R < made → gives (R + 1) ≡ first_apart width (queried_state e own waiting) a d
+      pub first_number : R < made → gives (R + 1) ≡ first_apart width (queried_state e count own bs waiting) a d
       first_number x = ap gives (add-one R ∙ sym (above-yes R made x)) ∙ sym lowest
 
-      pub first_no_number : made ≤ R → gives 0 ≡ first_apart width (queried_state e own waiting) a d
+      pub first_no_number : made ≤ R → gives 0 ≡ first_apart width (queried_state e count own bs waiting) a d
       first_no_number x = ap gives (sym (above_no R made x)) ∙ sym lowest

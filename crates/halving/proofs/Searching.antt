@@ -12,8 +12,8 @@ use Rattle.causality.specs.State.{Mark}
 use Rattle.causality.specs.inner.Order.{CausallyOrdered}
 use Rattle.causality.proofs.RowLaws.{under_up}
 use Rattle.rows.specs.declared.Executed.{Executed}
-use Rattle.rows.specs.Executed.{marks_to}
-use Rattle.rows.specs.View.{Carried, carried_at, name_at, names_down, row_at, view, width}
+use Rattle.rows.specs.Executed.{marks_with}
+use Rattle.rows.specs.View.{Carried, name_at, names_down, row_at, view, width}
 use Rattle.rows.specs.inner.Slots.{Named, row_fn}
 use Rattle.rows.proofs.Arrays.{sound_below}
 use Rattle.rows.proofs.RowSteps.{named-less}
@@ -71,9 +71,6 @@ pub record Halved (e : Executed) (start : List ℕ) (p d t : ℕ) (row : List �
   pub asked : AsMany e start p d t asks turns low high
 
 module _ (e : Executed) (start : List ℕ) (p d t : ℕ) where
-  abbrev carried : ℕ → Carried
-  carried = carried_at e.boxes e.pasts
-
   pub halved_start : length start ≡ width → p < places → t ≡ tally d (names_down p e.desks e.numbers) → Halved e start p d t start p (min (row_fn start d) t) t 0
   halved_start l h made = record {
     long = l;
@@ -159,9 +156,9 @@ module _ (e : Executed) (start : List ℕ) (p d t : ℕ) where
 
     -- No number is left.
     module _ (h : high ≤ low) (f : Named width p e.desks) (lo : 1 ≤ d) (hi : d ≤ width) (er : (j : ℕ) → j < width → get_or start j 0 ≡ get_or (get_or e.stamps p []) j 0) where
-      counts : (count : ℕ) → p < count → CausallyOrdered (marks_to count e) → (k : ℕ) → 1 ≤ k
-          → number_precedes count e p d k ≡ leb k (reached_to e carried p start d)
-      counts count l s k pos = reached_counts width e.desks e.numbers carried e.stamps count p l f s start er (record { desk = d; number = k }) lo hi pos
+      counts : (count : ℕ) (bs : ℕ → Carried) → p < count → CausallyOrdered (marks_with bs count e) → (k : ℕ) → 1 ≤ k
+          → number_precedes count e bs p d k ≡ leb k (reached_to e bs p start d)
+      counts count bs l s k pos = reached_counts width e.desks e.numbers bs e.stamps count p l f s start er (record { desk = d; number = k }) lo hi pos
 
       entry : row_fn start d ≡ row_at e.stamps p d
       entry = er (d - 1) (omega arith)
@@ -169,11 +166,11 @@ module _ (e : Executed) (start : List ℕ) (p d t : ℕ) where
       pub halved_end : SearchedOf e p d t (record { precede = low; asks = asks })
       halved_end = let o = w.sides in record {
         few = omega arith;
-        run = λ count l s k pos few. counts count l s k pos
-            ∙ up_to (reached_to e carried p start d) k few (w.precede carried) (w.apart carried (sound_below width count e.desks e.numbers carried e.stamps s p (omega arith)));
-        asks = λ count l s.
-            let v = rw entry at (w.asked carried (number_precedes count e p d) (sound_below width count e.desks e.numbers carried e.stamps s p (omega arith)) (counts count l s)) in
-            let z = no_turn (number_precedes count e p d) w.turns low high h in
+        run = λ count bs l s k pos few. counts count bs l s k pos
+            ∙ up_to (reached_to e bs p start d) k few (w.precede bs) (w.apart bs (sound_below width count e.desks e.numbers bs e.stamps s p (omega arith)));
+        asks = λ count bs l s.
+            let v = rw entry at (w.asked bs (number_precedes count e bs p d) (sound_below width count e.desks e.numbers bs e.stamps s p (omega arith)) (counts count bs l s)) in
+            let z = no_turn (number_precedes count e bs p d) w.turns low high h in
             omega arith;
       }
         where

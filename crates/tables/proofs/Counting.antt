@@ -17,8 +17,8 @@ use Rattle.causality.specs.inner.Order.{CausallyOrdered}
 use Rattle.causality.proofs.Tables.{apart_grows, apart-most, before_grows, before_most, past_few}
 use Rattle.queries.specs.inner.Lent.{OfMarks}
 use Rattle.rows.specs.declared.Executed.{Executed}
-use Rattle.rows.specs.Executed.{mark_in, marks_to}
-use Rattle.rows.specs.View.{Carried, carried_at, name_at, names_down, view, width}
+use Rattle.rows.specs.Executed.{marks_with}
+use Rattle.rows.specs.View.{Carried, mark_at, name_at, names_down, view, width}
 use Rattle.rows.proofs.Arrays.{view-length}
 use Rattle.rows.proofs.Places.{ids-names}
 use Rattle.rows.proofs.Slots.{zeros}
@@ -30,9 +30,6 @@ same_desk_lem : (j d e : ℕ) → e ≡ suc d → eqb (suc j) e ≡ eqb j d
 same_desk_lem j d e q = ap (eqb (suc j)) q ∙ eqb-suc-suc j d
 
 module _ (marks : Executed) where
-  abbrev carried : ℕ → Carried
-  carried = carried_at marks.boxes marks.pasts
-
   -- How many marks of each desk are passed, and the tables of all that are.
   pub record CountedTo (t : Tables) (made : List ℕ) (q : ℕ) : Type 0 where
     pub long : length made ≡ width
@@ -45,7 +42,7 @@ module _ (marks : Executed) where
   counted_none = record {
     long = length-replicate {A = ℕ} width 0;
     counts = λ j h. zeros width j;
-    tables = λ s. (none (λ i j. refl), none (λ i j. refl));
+    tables = λ bs s. (none (λ i j. refl), none (λ i j. refl));
   }
     where
       row : (i : ℕ) → i < width → get_or (replicate width (replicate {A = ℕ} width 0)) i [] ≡ replicate {A = ℕ} width 0
@@ -61,23 +58,23 @@ module _ (marks : Executed) where
 
   module _ (t : Tables) (made : List ℕ) (q : ℕ) (w : CountedTo t made q) (d : ℕ) (hd : d < width) (e : get_or marks.desks q 0 ≡ suc d)
       (past : List ℕ) (hp : OfMarks (suc q) marks (λ l. (j : ℕ) → j < width → get_or past j 0 ≡ in_past l (suc j) (name_at marks.desks marks.numbers q))) where
-    module _ (s : CausallyOrdered (marks_to (suc q) marks)) where
+    module _ (bs : ℕ → Carried) (s : CausallyOrdered (marks_with bs (suc q) marks)) where
       abbrev l : List Mark
-      l = marks_to q marks
+      l = marks_with bs q marks
 
       abbrev m : Mark
-      m = mark_in marks q
+      m = mark_at width marks.desks marks.numbers bs marks.stamps q
 
-      below : CausallyOrdered (marks_to q marks)
+      below : CausallyOrdered (marks_with bs q marks)
       unfolding view
       below = s.1
 
-      made-is : (j : ℕ) → j < width → get_or made j 0 ≡ tally (suc j) (ids (marks_to q marks))
-      made-is j h = w.counts j h ∙ ap (tally (suc j)) (sym (ids-names width marks.desks marks.numbers carried marks.stamps q))
+      made-is : (j : ℕ) → j < width → get_or made j 0 ≡ tally (suc j) (ids (marks_with bs q marks))
+      made-is j h = w.counts j h ∙ ap (tally (suc j)) (sym (ids-names width marks.desks marks.numbers bs marks.stamps q))
 
       past_is : (j : ℕ) → j < width → get_or past j 0 ≡ in_past (m ∷ l) (suc j) (name_at marks.desks marks.numbers q)
       unfolding view
-      past_is = hp s
+      past_is = hp bs s
 
       -- No more precede than are passed.
       pub past_within : AtMost width past made
@@ -87,38 +84,38 @@ module _ (marks : Executed) where
       -- Counts are small.
       module _ (f : q ≤ places) where
         pub made_few : Few width made
-        made_few j h = let a = made-is j h in let b = tally-length (suc j) l in let c = view-length width q marks.desks marks.numbers carried marks.stamps in omega arith
+        made_few j h = let a = made-is j h in let b = tally-length (suc j) l in let c = view-length width q marks.desks marks.numbers bs marks.stamps in omega arith
 
-        few : length (marks_to q marks) ≤ places
-        few = let v = view-length width q marks.desks marks.numbers carried marks.stamps in omega arith
+        few : length (marks_with bs q marks) ≤ places
+        few = let v = view-length width q marks.desks marks.numbers bs marks.stamps in omega arith
 
         pub small_apart : Small width t.apart
-        small_apart = let h = (w.tables below).0 in record { square = h.square; most = λ i j a b. let x = h.cells i j a b in let y = apart-most l few (suc i) (suc j) in omega arith }
+        small_apart = let h = (w.tables bs below).0 in record { square = h.square; most = λ i j a b. let x = h.cells i j a b in let y = apart-most l few (suc i) (suc j) in omega arith }
 
         pub small_before : Small width t.before
-        small_before = let h = (w.tables below).1 in record { square = h.square; most = λ i j a b. let x = h.cells i j a b in let y = before_most l few (suc i) (suc j) in omega arith }
+        small_before = let h = (w.tables bs below).1 in record { square = h.square; most = λ i j a b. let x = h.cells i j a b in let y = before_most l few (suc i) (suc j) in omega arith }
 
     -- It is passed.
     module _ (u : Tables) (a : Added width d past made t u) where
-      module _ (s : CausallyOrdered (marks_to (suc q) marks)) where
-        rest_is : (j : ℕ) → j < width → get_or made j 0 - get_or past j 0 ≡ tally (suc j) (ids (marks_to q marks)) - in_past (marks_to (suc q) marks) (suc j) (name_at marks.desks marks.numbers q)
-        rest_is j h = let a = made-is s j h in let b = hp s j h in omega arith
+      module _ (bs : ℕ → Carried) (s : CausallyOrdered (marks_with bs (suc q) marks)) where
+        rest_is : (j : ℕ) → j < width → get_or made j 0 - get_or past j 0 ≡ tally (suc j) (ids (marks_with bs q marks)) - in_past (marks_with bs (suc q) marks) (suc j) (name_at marks.desks marks.numbers q)
+        rest_is j h = let a = made-is bs s j h in let b = hp bs s j h in omega arith
 
-        next_before : Holds width (pairs_before (marks_to (suc q) marks)) u.before
+        next_before : Holds width (pairs_before (marks_with bs (suc q) marks)) u.before
         unfolding view
-        next_before = let h = (w.tables (below s)).1 in record {
+        next_before = let h = (w.tables bs (below bs s)).1 in record {
           square = a.before;
           cells = λ i j hi hj. a.before_cells i j hi hj
-              ∙ (λ k. h.cells i j hi hj k + cond (sym (same_desk_lem j d (get_or marks.desks q 0) e) k) (hp s i hi k) 0) ∙ sym (before_grows (m s) (l s) s (suc i) (suc j));
+              ∙ (λ k. h.cells i j hi hj k + cond (sym (same_desk_lem j d (get_or marks.desks q 0) e) k) (hp bs s i hi k) 0) ∙ sym (before_grows (m bs s) (l bs s) s (suc i) (suc j));
         }
 
-        next_apart : Holds width (pairs_apart (marks_to (suc q) marks)) u.apart
+        next_apart : Holds width (pairs_apart (marks_with bs (suc q) marks)) u.apart
         unfolding view
-        next_apart = let h = (w.tables (below s)).0 in record {
+        next_apart = let h = (w.tables bs (below bs s)).0 in record {
           square = a.apart;
           cells = λ i j hi hj. a.apart_cells i j hi hj
               ∙ (λ k. h.cells i j hi hj k + cond (sym (same_desk_lem j d (get_or marks.desks q 0) e) k) (rest_is i hi k) 0 + cond (sym (same_desk_lem i d (get_or marks.desks q 0) e) k) (rest_is j hj k) 0)
-              ∙ sym (apart_grows (m s) (l s) s (suc i) (suc j));
+              ∙ sym (apart_grows (m bs s) (l bs s) s (suc i) (suc j));
         }
 
       next_made : (j : ℕ) → j < width → get_or (set made d (get_or made d 0 + 1)) j 0 ≡ tally (suc j) (names_down (suc q) marks.desks marks.numbers)
@@ -137,5 +134,5 @@ module _ (marks : Executed) where
       counted-more = subst (CountedTo u (set made d (get_or made d 0 + 1))) (sym (add-one q)) (record {
         long = length-set made d (get_or made d 0 + 1) ∙ w.long;
         counts = next_made;
-        tables = λ s. (next_apart s, next_before s);
+        tables = λ bs s. (next_apart bs s, next_before bs s);
       })

@@ -11,8 +11,8 @@ use Rattle.causality.specs.inner.Order.{CausallyOrdered}
 use Rattle.queries.specs.inner.Lent.{HasMarks, OfMarks}
 use Rattle.queries.specs.inner.Steps.{PastOf}
 use Rattle.rows.specs.declared.Executed.{Executed}
-use Rattle.rows.specs.Executed.{marks_to}
-use Rattle.rows.specs.View.{carried_at, name_at, width}
+use Rattle.rows.specs.Executed.{marks_with}
+use Rattle.rows.specs.View.{name_at, width}
 use Rattle.rows.proofs.Arrays.{sound_below}
 use Rattle.rows.proofs.RowSteps.{named-at}
 use Rattle.tables.proofs.Counting.{counted-more, counted_none, made_few, past_within, small_apart, small_before}
@@ -26,14 +26,14 @@ module _ (a : Executed) (m : HasMarks a) (q : ℕ) (l : q < a.count) where
   index : let e = get_or a.desks q 0 in (e - 1 < width) × (e ≡ suc (e - 1))
   index = let r = in-range in (omega arith, omega arith)
 
-  sound : CausallyOrdered (marks_to (suc q) a)
-  sound = sound_below width a.count a.desks a.numbers (carried_at a.boxes a.pasts) a.stamps m.sound (suc q) l
+  sound : CausallyOrdered (marks_with m.carried (suc q) a)
+  sound = sound_below width a.count a.desks a.numbers m.carried a.stamps m.sound (suc q) l
 
 -- Its past, by the index of a desk.
 past_is : (a : Executed) (q : ℕ) (past : List ℕ) → PastOf a q past
     → OfMarks (suc q) a (λ l. (j : ℕ) → j < width → get_or past j 0 ≡ in_past l (suc j) (name_at a.desks a.numbers q))
-past_is a q past p s j h =
-    ap (λ (x : ℕ). get_or past x 0) (sym (sub-one (suc j))) ∙ p (suc q) (omega arith) s (suc j) (omega arith) (omega arith)
+past_is a q past p bs s j h =
+    ap (λ (x : ℕ). get_or past x 0) (sym (sub-one (suc j))) ∙ p (suc q) (omega arith) bs s (suc j) (omega arith) (omega arith)
 
 pub loop-q-init : goal.loop-q-init
 loop-q-init c = counted_none _
@@ -49,10 +49,10 @@ add-requires c =
     let few : c.loop-q.q ≤ places = omega arith in
     rw c.from-d.ensures (record {
       desk = i.0;
-      past = past_within a _ _ q c.loop-q.invariant _ i.0 i.1 c.past.result p s;
-      made = made_few a _ _ q c.loop-q.invariant _ i.0 i.1 c.past.result p s few;
-      apart = small_apart a _ _ q c.loop-q.invariant _ i.0 i.1 c.past.result p s few;
-      before = small_before a _ _ q c.loop-q.invariant _ i.0 i.1 c.past.result p s few;
+      past = past_within a _ _ q c.loop-q.invariant _ i.0 i.1 c.past.result p c.requires.carried s;
+      made = made_few a _ _ q c.loop-q.invariant _ i.0 i.1 c.past.result p c.requires.carried s few;
+      apart = small_apart a _ _ q c.loop-q.invariant _ i.0 i.1 c.past.result p c.requires.carried s few;
+      before = small_before a _ _ q c.loop-q.invariant _ i.0 i.1 c.past.result p c.requires.carried s few;
     })
 
 pub overflow_add-made : goal.overflow_add-made
@@ -62,7 +62,7 @@ overflow_add-made c =
     let r = in-range a c.requires q c.loop-q-test.true in
     let i = index a c.requires q c.loop-q-test.true in
     let s = sound a c.requires q c.loop-q-test.true in
-    let m = made_few a _ _ q c.loop-q.invariant _ i.0 i.1 c.past.result (past_is a q _ c.past.ensures) s (omega arith) _ i.0 in
+    let m = made_few a _ _ q c.loop-q.invariant _ i.0 i.1 c.past.result (past_is a q _ c.past.ensures) c.requires.carried s (omega arith) _ i.0 in
     rw c.from-d.ensures (record { fits = omega (arith, m) })
 
 pub loop-q-preserved : goal.loop-q-preserved

@@ -13,6 +13,6 @@ returns c =
     let out = c.args.out.now in
     record {
       answer = sym (enough width (length out) c.if-out.false);
-      counts = λ s. tables_filled width _ _ _ _ out _ (t.ensures s).0 (t.ensures s).1 c.if-out.false
+      counts = λ bs s. tables_filled width _ _ _ _ out _ (t.ensures bs s).0 (t.ensures bs s).1 c.if-out.false
           (c.put-2.ensures ∙ ap (λ (x : List ℕ). paste x (table_size width) (flat_map (λ x. x) t.result.before) (table_size width)) c.put.ensures);
     }
