@@ -18,8 +18,8 @@ use Rattle.pairs.specs.Pairs.{Spare}
 use Rattle.pairs.specs.declared.Listed.{Listed}
 use Rattle.pairs.proofs.Longer.{longer, longer-names, longer_spare}
 use Rattle.rows.specs.declared.Executed.{Executed}
-use Rattle.rows.specs.Executed.{executed_in, marks_to}
-use Rattle.rows.specs.View.{Carried, carried_at, name_at, names_down, view, width}
+use Rattle.rows.specs.Executed.{marks_with}
+use Rattle.rows.specs.View.{Carried, name_at, names_down, view, width}
 use Rattle.rows.specs.inner.Slots.{row_fn}
 use Rattle.rows.proofs.Places.{has-at, ids-names}
 use Rattle.concurrent.specs.inner.Steps.{Tells}
@@ -50,25 +50,21 @@ module _ (b : Bool) (first row : List ℕ) (j : ℕ) where
 
 -- THE TURN
 
--- What the marks of a struct carry, by place.
-abbrev bs : Executed → ℕ → Carried
-bs executed = carried_at executed.boxes executed.pasts
-
 module _ (executed : Executed) (first past : List ℕ) where
   -- The rows tell of the mark at p.
   pub record Both (p : ℕ) : Type 0 where
     pub inside : p < executed.count
     pub follows : Tells executed p executed.count first
-    pub precede : CausallyOrdered (executed_in executed) → (i : MarkId) → T (has i (ids (executed_in executed)))
-        → precedes (executed_in executed) i (name_at executed.desks executed.numbers p) ≡ leb i.number (row_fn past i.desk)
+    pub precede : (bs : ℕ → Carried) → CausallyOrdered (marks_with bs executed.count executed) → (i : MarkId) → T (has i (ids (marks_with bs executed.count executed)))
+        → precedes (marks_with bs executed.count executed) i (name_at executed.desks executed.numbers p) ≡ leb i.number (row_fn past i.desk)
 
   -- Of the first q marks those apart from that of which the rows tell are listed.
   pub record ApartTo (q : ℕ) (list : Listed) : Type 0 where
     pub turns : q ≤ executed.count
     pub small : list.count ≤ q
     pub spare : Spare list
-    pub names : (p : ℕ) → Both p → CausallyOrdered (executed_in executed)
-        → names_down list.count list.desks list.numbers ≡ keep (concurrent (executed_in executed) (name_at executed.desks executed.numbers p)) (ids (marks_to q executed))
+    pub names : (p : ℕ) → Both p → (bs : ℕ → Carried) → CausallyOrdered (marks_with bs executed.count executed)
+        → names_down list.count list.desks list.numbers ≡ keep (concurrent (marks_with bs executed.count executed) (name_at executed.desks executed.numbers p)) (ids (marks_with bs q executed))
 
   module _ (q : ℕ) (list : Listed) (v : ApartTo q list) (l : q < executed.count) where
     -- Is the mark the given one, or does it follow it? Is it not of its past?
@@ -78,27 +74,27 @@ module _ (executed : Executed) (first past : List ℕ) where
     abbrev pub above : Bool
     above = ltb (row_fn past (get_or executed.desks q 0)) (get_or executed.numbers q 0)
 
-    apart-is : (p : ℕ) → Both p → CausallyOrdered (executed_in executed) → concurrent (executed_in executed) (name_at executed.desks executed.numbers p) (name_at executed.desks executed.numbers q) ≡ (not follows && above)
+    apart-is : (p : ℕ) → Both p → (bs : ℕ → Carried) → CausallyOrdered (marks_with bs executed.count executed) → concurrent (marks_with bs executed.count executed) (name_at executed.desks executed.numbers p) (name_at executed.desks executed.numbers q) ≡ (not follows && above)
     unfolding concurrent view
-    apart-is p w s =
+    apart-is p w bs s =
         let a = name_at executed.desks executed.numbers p in
         let i = name_at executed.desks executed.numbers q in
-        (λ k. not (same a i) && (not (precedes (executed_in executed) a i) && (ap not (w.precede s i (has-at width executed.desks executed.numbers (bs executed) executed.stamps executed.count q l)) ∙ not-leb (get_or executed.numbers q 0) (row_fn past (get_or executed.desks q 0))) k))
-        ∙ either (same a i) (precedes (executed_in executed) a i) above
-        ∙ ap (λ (b : Bool). not b && above) (w.follows.tells executed.count w.inside (omega arith) s i (rw (← ids-names width executed.desks executed.numbers (bs executed) executed.stamps executed.count) (has-at width executed.desks executed.numbers (bs executed) executed.stamps executed.count q l)))
+        (λ k. not (same a i) && (not (precedes (marks_with bs executed.count executed) a i) && (ap not (w.precede bs s i (has-at width executed.desks executed.numbers bs executed.stamps executed.count q l)) ∙ not-leb (get_or executed.numbers q 0) (row_fn past (get_or executed.desks q 0))) k))
+        ∙ either (same a i) (precedes (marks_with bs executed.count executed) a i) above
+        ∙ ap (λ (b : Bool). not b && above) (w.follows.tells executed.count w.inside (omega arith) bs s i (rw (← ids-names width executed.desks executed.numbers bs executed.stamps executed.count) (has-at width executed.desks executed.numbers bs executed.stamps executed.count q l)))
       where
         either : (a b c : Bool) → (not a && (not b && c)) ≡ (not (a || b) && c)
         either true b c = refl
         either false b c = refl
 
-    step-names : (b : Bool) → (not follows && above) ≡ b → (p : ℕ) → Both p → CausallyOrdered (executed_in executed)
-        → let P = concurrent (executed_in executed) (name_at executed.desks executed.numbers p) in
-        keep P (ids (marks_to (q + 1) executed)) ≡ cond b (name_at executed.desks executed.numbers q ∷ keep P (ids (marks_to q executed))) (keep P (ids (marks_to q executed)))
+    step-names : (b : Bool) → (not follows && above) ≡ b → (p : ℕ) → Both p → (bs : ℕ → Carried) → CausallyOrdered (marks_with bs executed.count executed)
+        → let P = concurrent (marks_with bs executed.count executed) (name_at executed.desks executed.numbers p) in
+        keep P (ids (marks_with bs (q + 1) executed)) ≡ cond b (name_at executed.desks executed.numbers q ∷ keep P (ids (marks_with bs q executed))) (keep P (ids (marks_with bs q executed)))
     unfolding view
-    step-names b e p w s =
-        let P = concurrent (executed_in executed) (name_at executed.desks executed.numbers p) in
-        let x = apart-is p w s ∙ e in
-        ap (λ (k : ℕ). keep P (ids (marks_to k executed))) (add-one q) ∙ (λ i. cond (x i) (name_at executed.desks executed.numbers q ∷ keep P (ids (marks_to q executed))) (keep P (ids (marks_to q executed))))
+    step-names b e p w bs s =
+        let P = concurrent (marks_with bs executed.count executed) (name_at executed.desks executed.numbers p) in
+        let x = apart-is p w bs s ∙ e in
+        ap (λ (k : ℕ). keep P (ids (marks_with bs k executed))) (add-one q) ∙ (λ i. cond (x i) (name_at executed.desks executed.numbers q ∷ keep P (ids (marks_with bs q executed))) (keep P (ids (marks_with bs q executed))))
 
     -- A mark that is the given one, or follows it, or is of its past, is passed.
     passed_by : (not follows && above) ≡ false → ApartTo (q + 1) list
@@ -106,7 +102,7 @@ module _ (executed : Executed) (first past : List ℕ) where
       turns = omega arith;
       small = let x = v.small in omega arith;
       spare = v.spare;
-      names = λ p w s. v.names p w s ∙ sym (step-names false e p w s);
+      names = λ p w bs s. v.names p w bs s ∙ sym (step-names false e p w bs s);
     }
 
     pub turn-follows : follows ≡ true → ApartTo (q + 1) list
@@ -122,21 +118,21 @@ module _ (executed : Executed) (first past : List ℕ) where
         turns = omega arith;
         small = let z = v.small in omega arith;
         spare = longer_spare list v.spare (get_or executed.desks q 0) (get_or executed.numbers q 0);
-        names = λ p w s. longer-names list v.spare (get_or executed.desks q 0) (get_or executed.numbers q 0) (let z = v.small in omega arith)
-            ∙ ap (λ (x : List MarkId). name_at executed.desks executed.numbers q ∷ x) (v.names p w s)
-            ∙ sym (step-names true (let x = lt-ltb (row_fn past (get_or executed.desks q 0)) (get_or executed.numbers q 0) u in λ i. not (t i) && x i) p w s);
+        names = λ p w bs s. longer-names list v.spare (get_or executed.desks q 0) (get_or executed.numbers q 0) (let z = v.small in omega arith)
+            ∙ ap (λ (x : List MarkId). name_at executed.desks executed.numbers q ∷ x) (v.names p w bs s)
+            ∙ sym (step-names true (let x = lt-ltb (row_fn past (get_or executed.desks q 0)) (get_or executed.numbers q 0) u in λ i. not (t i) && x i) p w bs s);
       }
 
   -- At the start nothing is passed; at the end all marks are.
   pub apart_none : (list : Listed) → list.count ≡ 0 → Spare list → ApartTo 0 list
   unfolding view
-  apart_none list e x = record { turns = omega arith; small = omega arith; spare = x; names = λ p w s. rw e refl }
+  apart_none list e x = record { turns = omega arith; small = omega arith; spare = x; names = λ p w bs s. rw e refl }
 
   pub apart-all : (q : ℕ) (list : Listed) → ApartTo q list → executed.count ≤ q → (p : ℕ) → Both p
-      → (list.count ≤ executed.count) × Spare list × (CausallyOrdered (executed_in executed)
-      → names_down list.count list.desks list.numbers ≡ keep (concurrent (executed_in executed) (name_at executed.desks executed.numbers p)) (ids (executed_in executed)))
+      → (list.count ≤ executed.count) × Spare list × ((bs : ℕ → Carried) → CausallyOrdered (marks_with bs executed.count executed)
+      → names_down list.count list.desks list.numbers ≡ keep (concurrent (marks_with bs executed.count executed) (name_at executed.desks executed.numbers p)) (ids (marks_with bs executed.count executed)))
   apart-all q list v h p w =
       let t = v.turns in
       let x = v.small in
       let e : q ≡ executed.count = omega arith in
-      (omega arith, v.spare, λ s. v.names p w s ∙ ap (λ (k : ℕ). keep (concurrent (executed_in executed) (name_at executed.desks executed.numbers p)) (ids (marks_to k executed))) e)
+      (omega arith, v.spare, λ bs s. v.names p w bs s ∙ ap (λ (k : ℕ). keep (concurrent (marks_with bs executed.count executed) (name_at executed.desks executed.numbers p)) (ids (marks_with bs k executed))) e)

@@ -16,8 +16,8 @@ use Rattle.causality.proofs.Apart.{follower_new, followers, noted, reached_by-ro
 use Rattle.causality.proofs.Upto.{any_to_cong}
 use Rattle.causality.specs.inner.Order.{CausallyOrdered}
 use Rattle.rows.specs.declared.Executed.{Executed}
-use Rattle.rows.specs.Executed.{mark_in, marks_to}
-use Rattle.rows.specs.View.{Carried, carried_at, row_at, view, width}
+use Rattle.rows.specs.Executed.{marks_with}
+use Rattle.rows.specs.View.{Carried, mark_at, row_at, view, width}
 use Rattle.rows.specs.inner.Slots.{row_fn}
 use Rattle.rows.proofs.Arrays.{sound_below}
 use Rattle.rows.proofs.Places.{precedes_no_earlier, precedes_there}
@@ -46,10 +46,6 @@ module _ (first : List ℕ) (desk number : ℕ) (lo : 1 ≤ desk) where
       go true e = rw (ne_eqb (row_fn first d) 0 (subst (λ (x : ℕ). row_fn first x ≡ 0 → ⊥) (sym (eqb-true d desk e)) z)) refl
       go false e = refl
 
--- What the marks of a struct carry, by place.
-abbrev bs : Executed → ℕ → Carried
-bs executed = carried_at executed.boxes executed.pasts
-
 module _ (executed : Executed) (count p : ℕ) where
   abbrev given : MarkId
   given = record { desk = get_or executed.desks p 0; number = get_or executed.numbers p 0 }
@@ -57,64 +53,64 @@ module _ (executed : Executed) (count p : ℕ) where
   -- A row has the first followers of the mark at p among the first q.
   pub record Noted (q : ℕ) (first : List ℕ) : Type 0 where
     pub long : length first ≡ width
-    pub rows : CausallyOrdered (marks_to count executed) → (d : ℕ) → 1 ≤ d → d ≤ width → row_fn first d ≡ followers given (marks_to q executed) d
+    pub rows : (bs : ℕ → Carried) → CausallyOrdered (marks_with bs count executed) → (d : ℕ) → 1 ≤ d → d ≤ width → row_fn first d ≡ followers given (marks_with bs q executed) d
 
   -- Among no marks there is none.
   pub noted-none : Noted 0 (replicate width 0)
   unfolding view
-  noted-none = record { long = length-replicate {A = ℕ} width 0; rows = λ s d lo hi. zeros width (d - 1) }
+  noted-none = record { long = length-replicate {A = ℕ} width 0; rows = λ bs s d lo hi. zeros width (d - 1) }
 
   module _ (q : ℕ) (first : List ℕ) (w : Noted q first) (h : p < count) (l : q < count) where
     -- Is the mark the given one, or does its stamp name a follower?
     abbrev pub names : Bool
     names = is_or_names first executed.stamps p q
 
-    module _ (s : CausallyOrdered (marks_to count executed)) where
+    module _ (bs : ℕ → Carried) (s : CausallyOrdered (marks_with bs count executed)) where
       abbrev m : Mark
-      m = mark_in executed q
+      m = mark_at width executed.desks executed.numbers bs executed.stamps q
 
       abbrev older : List Mark
-      older = marks_to q executed
+      older = marks_with bs q executed
 
       names-is : names ≡ (same given m.id || reached_by (followers given older) m.stamp)
       names-is =
-          let a = same_place width executed.desks executed.numbers (bs executed) executed.stamps count p q s h l in
-          let b = any_to_cong width (λ d. ltb 0 (row_fn first d) && leb (row_fn first d) (row_at executed.stamps q d)) _ (λ d lo hi. let e = w.rows s d lo hi in λ i. ltb 0 (e i) && leb (e i) (row_at executed.stamps q d)) ∙ sym (reached_by-row width (followers given older) (row_at executed.stamps q)) in
+          let a = same_place width executed.desks executed.numbers bs executed.stamps count p q s h l in
+          let b = any_to_cong width (λ d. ltb 0 (row_fn first d) && leb (row_fn first d) (row_at executed.stamps q d)) _ (λ d lo hi. let e = w.rows bs s d lo hi in λ i. ltb 0 (e i) && leb (e i) (row_at executed.stamps q d)) ∙ sym (reached_by-row width (followers given older) (row_at executed.stamps q)) in
           λ i. a i || b i
 
       -- The given mark or one that follows it.
-      pub follows_is : (same given m.id || precedes (marks_to count executed) given m.id) ≡ names
+      pub follows_is : (same given m.id || precedes (marks_with bs count executed) given m.id) ≡ names
       unfolding view
-      follows_is = ap (λ (b : Bool). same given m.id || b) (precedes_there width executed.desks executed.numbers (bs executed) executed.stamps count q s l given) ∙ follower_new m older (sound_below width count executed.desks executed.numbers (bs executed) executed.stamps s (suc q) l) given ∙ sym names-is
+      follows_is = ap (λ (b : Bool). same given m.id || b) (precedes_there width executed.desks executed.numbers bs executed.stamps count q s l given) ∙ follower_new m older (sound_below width count executed.desks executed.numbers bs executed.stamps s (suc q) l) given ∙ sym names-is
 
       -- A mark before it is neither.
       pub none_before : q < p → names ≡ false
       none_before o =
-          let a = sym (same_place width executed.desks executed.numbers (bs executed) executed.stamps count p q s h l) ∙ ne_eqb p q (λ e. omega arith) in
-          let b = precedes_no_earlier width executed.desks executed.numbers (bs executed) executed.stamps count p q s h (omega arith) in
+          let a = sym (same_place width executed.desks executed.numbers bs executed.stamps count p q s h l) ∙ ne_eqb p q (λ e. omega arith) in
+          let b = precedes_no_earlier width executed.desks executed.numbers bs executed.stamps count p q s h (omega arith) in
           sym follows_is ∙ (λ i. a i || b i)
 
       -- The desk has a follower noted.
       own_names : 1 ≤ get_or executed.desks q 0 → get_or executed.desks q 0 ≤ width → 0 < row_fn first (get_or executed.desks q 0) → names ≡ true
       unfolding view
-      own_names lo hi o = let e = w.rows s (get_or executed.desks q 0) lo hi in names-is ∙ own_follows m older (sound_below width count executed.desks executed.numbers (bs executed) executed.stamps s (suc q) l) given (omega arith)
+      own_names lo hi o = let e = w.rows bs s (get_or executed.desks q 0) lo hi in names-is ∙ own_follows m older (sound_below width count executed.desks executed.numbers bs executed.stamps s (suc q) l) given (omega arith)
 
     -- Of every sound history, whether the mark is the given one or follows it is b.
     abbrev pub Told : Bool → Type 0
-    Told b = CausallyOrdered (marks_to count executed) → names ≡ b
+    Told b = (bs : ℕ → Carried) → CausallyOrdered (marks_with bs count executed) → names ≡ b
 
     step_rows : (first' : List ℕ) (b : Bool) → Told b
         → ((d : ℕ) → 1 ≤ d → d ≤ width → row_fn first' d ≡ elim b [ true ↦ noted (row_fn first) (record { desk = get_or executed.desks q 0; number = get_or executed.numbers q 0 }) d | false ↦ row_fn first d ])
-        → CausallyOrdered (marks_to count executed) → (d : ℕ) → 1 ≤ d → d ≤ width → row_fn first' d ≡ followers given (marks_to (q + 1) executed) d
+        → (bs : ℕ → Carried) → CausallyOrdered (marks_with bs count executed) → (d : ℕ) → 1 ≤ d → d ≤ width → row_fn first' d ≡ followers given (marks_with bs (q + 1) executed) d
     unfolding view
-    step_rows first' b e f s d lo hi = f d lo hi ∙ go b (e s) ∙ ap (λ (k : ℕ). followers given (marks_to k executed) d) (sym (add-one q))
+    step_rows first' b e f bs s d lo hi = f d lo hi ∙ go b (e bs s) ∙ ap (λ (k : ℕ). followers given (marks_with bs k executed) d) (sym (add-one q))
       where
-        g : row_fn first d ≡ followers given (marks_to q executed) d
-        g = w.rows s d lo hi
+        g : row_fn first d ≡ followers given (marks_with bs q executed) d
+        g = w.rows bs s d lo hi
 
-        go : (b : Bool) → names ≡ b → elim b [ true ↦ noted (row_fn first) (record { desk = get_or executed.desks q 0; number = get_or executed.numbers q 0 }) d | false ↦ row_fn first d ] ≡ followers given (marks_to (suc q) executed) d
-        go true e = rw (sym (names-is s) ∙ e, followers) (λ i. elim (eqb d (get_or executed.desks q 0) && eqb (g i) 0) [ true ↦ get_or executed.numbers q 0 | false ↦ g i ])
-        go false e = rw (sym (names-is s) ∙ e, followers) g
+        go : (b : Bool) → names ≡ b → elim b [ true ↦ noted (row_fn first) (record { desk = get_or executed.desks q 0; number = get_or executed.numbers q 0 }) d | false ↦ row_fn first d ] ≡ followers given (marks_with bs (suc q) executed) d
+        go true e = rw (sym (names-is bs s) ∙ e, followers) (λ i. elim (eqb d (get_or executed.desks q 0) && eqb (g i) 0) [ true ↦ get_or executed.numbers q 0 | false ↦ g i ])
+        go false e = rw (sym (names-is bs s) ∙ e, followers) g
 
     noting : Told true → (first' : List ℕ) → length first' ≡ width
         → ((d : ℕ) → 1 ≤ d → row_fn first' d ≡ noted (row_fn first) (record { desk = get_or executed.desks q 0; number = get_or executed.numbers q 0 }) d) → Noted (q + 1) first'
@@ -125,11 +121,11 @@ module _ (executed : Executed) (count p : ℕ) where
       pub note_new : get_or first (get_or executed.desks q 0 - 1) 0 ≡ 0 → names ≡ true → Noted (q + 1) (set first (get_or executed.desks q 0 - 1) (get_or executed.numbers q 0))
       note_new z e =
           let long = w.long in
-          noting (λ s. e) (set first (get_or executed.desks q 0 - 1) (get_or executed.numbers q 0)) (length-set first (get_or executed.desks q 0 - 1) (get_or executed.numbers q 0) ∙ long)
+          noting (λ bs s. e) (set first (get_or executed.desks q 0 - 1) (get_or executed.numbers q 0)) (length-set first (get_or executed.desks q 0 - 1) (get_or executed.numbers q 0) ∙ long)
           (note_first first (get_or executed.desks q 0) (get_or executed.numbers q 0) lo (omega arith) z)
 
       pub behind-follows : (get_or first (get_or executed.desks q 0 - 1) 0 ≡ 0 → ⊥) → Told true
-      behind-follows z = let o : ¬ (get_or first (get_or executed.desks q 0 - 1) 0 ≡ 0) = z in λ s. own_names s lo hi (omega arith)
+      behind-follows z = let o : ¬ (get_or first (get_or executed.desks q 0 - 1) 0 ≡ 0) = z in λ bs s. own_names bs s lo hi (omega arith)
 
       pub note_behind : (get_or first (get_or executed.desks q 0 - 1) 0 ≡ 0 → ⊥) → Noted (q + 1) first
       note_behind z = noting (behind-follows z) first w.long (λ d x. note_later first (get_or executed.desks q 0) (get_or executed.numbers q 0) lo z d)

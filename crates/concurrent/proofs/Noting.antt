@@ -12,8 +12,8 @@ use Rattle.causality.proofs.Apart.{follower_row}
 use Rattle.causality.specs.inner.Order.{CausallyOrdered}
 use Rattle.predecessors.proofs.OldestLaws.{names-one-more, names_in, one}
 use Rattle.rows.specs.declared.Executed.{Executed}
-use Rattle.rows.specs.Executed.{marks_to}
-use Rattle.rows.specs.View.{Carried, carried_at, name_at, width}
+use Rattle.rows.specs.Executed.{marks_with}
+use Rattle.rows.specs.View.{Carried, name_at, width}
 use Rattle.rows.specs.inner.Slots.{Named, row_fn}
 use Rattle.rows.proofs.Arrays.{follows_below, sound_below}
 use Rattle.rows.proofs.Places.{ids-names, name-place}
@@ -35,10 +35,6 @@ names-all k r e j h = ltb→lt 0 (get_or r j 0) (rw (sub-one (suc j)) at (count-
 
 -- THE PASS
 
--- What the marks of a struct carry, by place.
-abbrev bs : Executed → ℕ → Carried
-bs executed = carried_at executed.boxes executed.pasts
-
 module _ (executed : Executed) (p q : ℕ) where
   -- Up to place r the followers of the mark at p are noted, and so many desks have one: however many marks there are.
   pub record NotedTo (r : ℕ) (first : List ℕ) (found : ℕ) : Type 0 where
@@ -47,7 +43,7 @@ module _ (executed : Executed) (p q : ℕ) where
     pub few : found ≤ r
     pub long : length first ≡ width
     pub noted : (count : ℕ) → p < count → q ≤ count → Noted executed count p r first
-    pub desks : (count : ℕ) → p < count → q ≤ count → CausallyOrdered (marks_to count executed) → names_in width first ≡ found
+    pub desks : (count : ℕ) → p < count → q ≤ count → (bs : ℕ → Carried) → CausallyOrdered (marks_with bs count executed) → names_in width first ≡ found
 
   module _ (h : p ≤ q) (named : Named width q executed.desks) where
     start : (count : ℕ) → p < count → q ≤ count → (r : ℕ) → r ≤ p → Noted executed count p r (replicate width 0)
@@ -55,7 +51,7 @@ module _ (executed : Executed) (p q : ℕ) where
     start count j k (suc r) l =
         let w = start count j k r (omega arith) in
         subst (λ (x : ℕ). Noted executed count p x (replicate width 0)) (add-one r)
-        (note_none executed count p r (replicate width 0) w (omega arith) (omega arith) (λ s. none_before executed count p r (replicate width 0) w (omega arith) (omega arith) s l))
+        (note_none executed count p r (replicate width 0) w (omega arith) (omega arith) (λ bs s. none_before executed count p r (replicate width 0) w (omega arith) (omega arith) bs s l))
 
     pub noting_starts : NotedTo p (replicate width 0) 0
     noting_starts = record {
@@ -64,7 +60,7 @@ module _ (executed : Executed) (p q : ℕ) where
       few = omega arith;
       long = (start (suc q) (omega arith) (omega arith) p (omega arith)).long;
       noted = λ count j k. start count j k p (omega arith);
-      desks = λ count j k s. names-none width;
+      desks = λ count j k bs s. names-none width;
     }
 
     module _ (r : ℕ) (first : List ℕ) (found : ℕ) (w : NotedTo r first found) (l : r < q) where
@@ -88,12 +84,12 @@ module _ (executed : Executed) (p q : ℕ) where
             few = omega arith;
             long = (x (suc q) (omega arith) (omega arith)).long;
             noted = x;
-            desks = λ count j k s.
-                let y = (follows_below width count executed.desks executed.numbers (bs executed) executed.stamps s r (omega arith)).next in
+            desks = λ count j k bs s.
+                let y = (follows_below width count executed.desks executed.numbers bs executed.stamps s r (omega arith)).next in
                 let long = w.long in
                 let a = hi in
                 let b = lo in
-                names-one-more width (get_or executed.desks r 0 - 1) first (get_or executed.numbers r 0) (omega arith) (omega arith) z (omega arith) ∙ ap suc (w.desks count j k s) ∙ sym (add-one found);
+                names-one-more width (get_or executed.desks r 0 - 1) first (get_or executed.numbers r 0) (omega arith) (omega arith) z (omega arith) ∙ ap suc (w.desks count j k bs s) ∙ sym (add-one found);
           }
 
       pub noting_behind : (get_or first (get_or executed.desks r 0 - 1) 0 ≡ 0 → ⊥) → NotedTo (r + 1) first found
@@ -106,27 +102,27 @@ module _ (executed : Executed) (p q : ℕ) where
       noting_none e =
           let f = w.from in
           let g = w.few in
-          record { from = omega arith; to = omega arith; few = omega arith; long = w.long; noted = λ count j k. note_none executed count p r first (w.noted count j k) (omega arith) (omega arith) (λ s. e); desks = w.desks }
+          record { from = omega arith; to = omega arith; few = omega arith; long = w.long; noted = λ count j k. note_none executed count p r first (w.noted count j k) (omega arith) (omega arith) (λ bs s. e); desks = w.desks }
 
     -- What is noted of all marks before q tells of them.
-    told : (first : List ℕ) → length first ≡ width → ((count : ℕ) → p < count → q ≤ count → CausallyOrdered (marks_to count executed) → Noted executed count p q first) → Tells executed p q first
+    told : (first : List ℕ) → length first ≡ width → ((count : ℕ) → p < count → q ≤ count → (bs : ℕ → Carried) → CausallyOrdered (marks_with bs count executed) → Noted executed count p q first) → Tells executed p q first
     told first long f = record {
       long = long;
-      tells = λ count j k s i t.
+      tells = λ count j k bs s i t.
           let a = name_at executed.desks executed.numbers p in
           let x = name-place executed.desks executed.numbers q i t in
           let z = named-at width q executed.desks x.0 named x.1 in
           let d = ap (λ (j : MarkId). j.desk) x.2 in
-          let e = (f count j k s).rows s i.desk (omega arith) (omega arith) in
-          ap (is_or_follows (marks_to count executed) a) (sym x.2) ∙ sym (follows_there width executed.desks executed.numbers (bs executed) executed.stamps count s q x.0 (omega arith) x.1 a) ∙ ap (is_or_follows (marks_to q executed) a) x.2
-          ∙ follower_row (marks_to q executed) (sound_below width count executed.desks executed.numbers (bs executed) executed.stamps s q (omega arith)) a i (rw (ids-names width executed.desks executed.numbers (bs executed) executed.stamps q) t) ∙ (λ j. ltb 0 (sym e j) && leb (sym e j) i.number);
+          let e = (f count j k bs s).rows bs s i.desk (omega arith) (omega arith) in
+          ap (is_or_follows (marks_with bs count executed) a) (sym x.2) ∙ sym (follows_there width executed.desks executed.numbers bs executed.stamps count s q x.0 (omega arith) x.1 a) ∙ ap (is_or_follows (marks_with bs q executed) a) x.2
+          ∙ follower_row (marks_with bs q executed) (sound_below width count executed.desks executed.numbers bs executed.stamps s q (omega arith)) a i (rw (ids-names width executed.desks executed.numbers bs executed.stamps q) t) ∙ (λ j. ltb 0 (sym e j) && leb (sym e j) i.number);
     }
 
     pub noting_ends : (r : ℕ) (first : List ℕ) (found : ℕ) → NotedTo r first found → q ≤ r → Tells executed p q first
     noting_ends r first found w e =
         let x = w.to in
         let y : r ≡ q = omega arith in
-        told first w.long (λ count j k s. subst (λ (z : ℕ). Noted executed count p z first) y (w.noted count j k))
+        told first w.long (λ count j k bs s. subst (λ (z : ℕ). Noted executed count p z first) y (w.noted count j k))
 
     -- Where each desk has a follower the row stays.
     rest : (count : ℕ) → p < count → q ≤ count → (first : List ℕ) → ((j : ℕ) → j < width → 0 < get_or first j 0) → (r d : ℕ) → r + d ≤ q → p ≤ r → Noted executed count p r first → Noted executed count p (r + d) first
@@ -142,5 +138,5 @@ module _ (executed : Executed) (p q : ℕ) where
     noting_done r first found w e =
         let x = w.to in
         let y : r + (q - r) ≡ q = omega arith in
-        told first w.long (λ count j k s. subst (λ (z : ℕ). Noted executed count p z first) y
-        (rest count j k first (names-all width first (w.desks count j k s ∙ e)) r (q - r) (omega arith) w.from (w.noted count j k)))
+        told first w.long (λ count j k bs s. subst (λ (z : ℕ). Noted executed count p z first) y
+        (rest count j k first (names-all width first (w.desks count j k bs s ∙ e)) r (q - r) (omega arith) w.from (w.noted count j k)))

@@ -15,7 +15,7 @@ use Rattle.pairs.specs.declared.Listed.{Listed}
 use Rattle.pairs.proofs.Longer.{longer, longer-names, longer_spare}
 use Rattle.queries.specs.inner.Lent.{OfMarks}
 use Rattle.rows.specs.declared.Executed.{Executed}
-use Rattle.rows.specs.Executed.{marks_to}
+use Rattle.rows.specs.Executed.{marks_with}
 use Rattle.rows.specs.View.{names_down}
 use Rattle.concurrent.specs.inner.Steps.{Tells, is_or_follows}
 use Rattle.evidence.specs.inner.Steps.{GoneBack, SteppedBack, SteppedTo, name}
@@ -39,8 +39,8 @@ module _ (executed : Executed) (p q : ℕ) where
   walk_starts list e spare = record {
     small = omega arith;
     spare = spare;
-    listed = λ count h s t.
-        let l = marks_to count executed in
+    listed = λ count h bs s t.
+        let l = marks_with bs count executed in
         (t, sym (ap (λ (k : ℕ). back l q ++ names_down k list.desks list.numbers) e ∙ append-nil (back l q)));
   }
 
@@ -59,10 +59,10 @@ module _ (executed : Executed) (p q : ℕ) where
         record {
           small = omega arith;
           spare = longer_spare list w.spare (name executed at).desk (name executed at).number;
-          listed = λ count k s t.
-              let l = marks_to count executed in
-              let x = w.listed count k s t in
-              let y = b.towards p (q + 1) lo (omega arith) tells count (omega arith) s x.0 in (
+          listed = λ count k bs s t.
+              let l = marks_with bs count executed in
+              let x = w.listed count k bs s t in
+              let y = b.towards p (q + 1) lo (omega arith) tells count (omega arith) bs s x.0 in (
                 y.0,
                 x.1 ∙ ap (λ (g : List MarkId). reverse g ++ names list) y.1 ∙ ap (λ (g : List MarkId). g ++ names list) (reverse-cons (name executed at) (going_back l (name executed p) (name executed r)))
                     ∙ append_assoc (back l r) (name executed at ∷ []) (names list) ∙ ap (λ (g : List MarkId). back l r ++ g) (sym (more at)),
@@ -78,7 +78,7 @@ module _ (executed : Executed) (p q : ℕ) where
         record {
           small = omega arith;
           spare = longer_spare list w.spare (name executed at).desk (name executed at).number;
-          listed = λ count k s t. absurd (b p (q + 1) lo (omega arith) tells count (omega arith) s (w.listed count k s t).0);
+          listed = λ count k bs s t. absurd (b p (q + 1) lo (omega arith) tells count (omega arith) bs s (w.listed count k bs s t).0);
         }
 
     pub walk_ends : at ≤ p → p ≤ q → GoneBack executed p q (listing p)
@@ -87,10 +87,10 @@ module _ (executed : Executed) (p q : ℕ) where
         record {
           few = omega arith;
           spare = longer_spare list w.spare (name executed p).desk (name executed p).number;
-          names = λ count k s t.
-              let l = marks_to count executed in
-              let x = w.listed count k s t in
-              let z = follows-later executed count s p at (omega arith) x.0 in
+          names = λ count k bs s t.
+              let l = marks_with bs count executed in
+              let x = w.listed count k bs s t in
+              let z = follows-later executed bs count s p at (omega arith) x.0 in
               let e : at ≡ p = omega arith in
-              more p ∙ sym (x.1 ∙ ap (λ (r : ℕ). back l r ++ names list) e ∙ ap (λ (g : List MarkId). reverse g ++ names list) (back_end executed count s p (omega arith)));
+              more p ∙ sym (x.1 ∙ ap (λ (r : ℕ). back l r ++ names list) e ∙ ap (λ (g : List MarkId). reverse g ++ names list) (back_end executed bs count s p (omega arith)));
         }

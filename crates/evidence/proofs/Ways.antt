@@ -23,7 +23,7 @@ use Rattle.causality.specs.declared.Place.{Place}
 use Rattle.causality.proofs.EvidenceLaws.{counts_below}
 use Rattle.causality.proofs.Logic.{or_inl, same_refl, split}
 use Rattle.causality.specs.inner.Order.{CausallyOrdered}
-use Rattle.executed.specs.inner.Rows.{Finds, Lent}
+use Rattle.executed.specs.inner.Rows.{Finds, LentTo}
 use Rattle.executed.proofs.Chain.{found_inside, found-place}
 use Rattle.pairs.specs.Pairs.{Spare, marks_of}
 use Rattle.pairs.specs.declared.Listed.{Listed}
@@ -33,8 +33,8 @@ use Rattle.queries.specs.inner.Steps.{PrecedesAt}
 use Rattle.queries.proofs.MadeBefore.{counted-less}
 use Rattle.queries.proofs.Relating.{relate_back, relate_forward, relate_no_first, relate_no_second, relate-same}
 use Rattle.rows.specs.declared.Executed.{Executed}
-use Rattle.rows.specs.Executed.{executed_in, marks_to}
-use Rattle.rows.specs.View.{carried_at, names_down, width}
+use Rattle.rows.specs.Executed.{marks_with}
+use Rattle.rows.specs.View.{Carried, names_down, width}
 use Rattle.rows.proofs.Places.{found_some, has-at, ids-names}
 use Rattle.rows.proofs.RowSteps.{named-less}
 use Rattle.concurrent.specs.inner.Steps.{Tells, is_or_follows}
@@ -79,69 +79,68 @@ module _ (st : State) (a b : MarkId) (room : ℕ) where
 -- BY PLACES
 
 -- A chain that was gone back, of a mark at q that is that at p or follows it.
-module _ (executed : Executed) (p q : ℕ) (list : Listed) (g : GoneBack executed p q list) (count : ℕ) (h : q < count) (s : CausallyOrdered (marks_to count executed))
-    (t : T (is_or_follows (marks_to count executed) (name executed p) (name executed q))) where
+module _ (executed : Executed) (p q : ℕ) (list : Listed) (g : GoneBack executed p q list) (count : ℕ) (h : q < count) (bs : ℕ → Carried) (s : CausallyOrdered (marks_with bs count executed))
+    (t : T (is_or_follows (marks_with bs count executed) (name executed p) (name executed q))) where
   abbrev back : List MarkId
-  back = going_back (marks_to count executed) (name executed p) (name executed q)
+  back = going_back (marks_with bs count executed) (name executed p) (name executed q)
 
   -- In the other order its marks are the chain.
-  names_back : (r : Listed) → Reversed list r → marks_of r ≡ chain (marks_to count executed) (name executed p) (name executed q)
+  names_back : (r : Listed) → Reversed list r → marks_of r ≡ chain (marks_with bs count executed) (name executed p) (name executed q)
   unfolding marks_of chain
-  names_back r v = ap reverse (v.names ∙ ap reverse (g.names count h s t) ∙ reverse-reverse back)
+  names_back r v = ap reverse (v.names ∙ ap reverse (g.names count h bs s t) ∙ reverse-reverse back)
 
-  long_back : list.count ≡ length (chain (marks_to count executed) (name executed p) (name executed q))
+  long_back : list.count ≡ length (chain (marks_with bs count executed) (name executed p) (name executed q))
   unfolding marks_of chain
-  long_back = sym (length-marks_of list) ∙ ap (λ (x : List MarkId). length (reverse x)) (g.names count h s t) ∙ length-reverse (reverse back)
+  long_back = sym (length-marks_of list) ∙ ap (λ (x : List MarkId). length (reverse x)) (g.names count h bs s t) ∙ length-reverse (reverse back)
 
 -- r says whether the mark at place q is that at place p or follows it, however many marks there are.
 abbrev pub FollowsAt : Executed → ℕ → ℕ → Bool → Type 0
-FollowsAt executed p q r = (count : ℕ) → q < count → CausallyOrdered (marks_to count executed)
-    → r ≡ is_or_follows (marks_to count executed) (name executed p) (name executed q)
+FollowsAt executed p q r = (count : ℕ) → q < count → (bs : ℕ → Carried) → CausallyOrdered (marks_with bs count executed)
+    → r ≡ is_or_follows (marks_with bs count executed) (name executed p) (name executed q)
 
 module _ (executed : Executed) (p q : ℕ) where
   -- By the row that tells of it and of the marks before it.
   pub follows-told : p ≤ q → (first : List ℕ) → Tells executed p (q + 1) first → FollowsAt executed p q (ltb 0 (get_or first (get_or executed.desks q 0 - 1) 0) && leb (get_or first (get_or executed.desks q 0 - 1) 0) (get_or executed.numbers q 0))
-  follows-told o first w count h s =
-      sym (w.tells count (omega arith) (omega arith) s (name executed q) (rw (← ids-names width executed.desks executed.numbers (carried_at executed.boxes executed.pasts) executed.stamps (q + 1)) (has-at width executed.desks executed.numbers (carried_at executed.boxes executed.pasts) executed.stamps (q + 1) q (omega arith))))
+  follows-told o first w count h bs s =
+      sym (w.tells count (omega arith) (omega arith) bs s (name executed q) (rw (← ids-names width executed.desks executed.numbers bs executed.stamps (q + 1)) (has-at width executed.desks executed.numbers bs executed.stamps (q + 1) q (omega arith))))
 
   -- At two places are two marks.
   precedes-at-places : p < q → (r : Bool) → FollowsAt executed p q r → PrecedesAt executed p q r
-  precedes-at-places o r f count h s =
-      f count h s ∙ ap (λ (b : Bool). b || precedes (marks_to count executed) (name executed p) (name executed q)) (sym (same_place width executed.desks executed.numbers (carried_at executed.boxes executed.pasts) executed.stamps count p q s (omega arith) h) ∙ ne_eqb p q (λ e. omega arith))
+  precedes-at-places o r f count h bs s =
+      f count h bs s ∙ ap (λ (b : Bool). b || precedes (marks_with bs count executed) (name executed p) (name executed q)) (sym (same_place width executed.desks executed.numbers bs executed.stamps count p q s (omega arith) h) ∙ ne_eqb p q (λ e. omega arith))
 
 -- EXECUTED MARKS THAT ARE LENT
 
-pub has-mark : (executed : Executed) → Lent executed → (p : ℕ) → p < executed.count → HasMark executed p
-has-mark executed l p h =
+pub has-mark : (count : ℕ) (executed : Executed) → LentTo count executed → (p : ℕ) → p < count → HasMark executed p
+has-mark count executed l p h =
     let f = l.few in
-    let e = (counted-less executed.desks executed.numbers executed.count (suc p) (omega arith) l.chain.counted).0 in
-    record { within = omega arith; named = named-less width executed.count executed.desks (suc p) l.named (omega arith); made = omega arith }
+    let e = (counted-less executed.desks executed.numbers count (suc p) (omega arith) l.chain.counted).0 in
+    record { within = omega arith; named = named-less width count executed.desks (suc p) l.named (omega arith); made = omega arith }
 
-module _ (executed : Executed) (l : Lent executed) (own : ℕ) (waiting : List Mark) (a b : MarkId) (room : ℕ) where
+module _ (count : ℕ) (executed : Executed) (l : LentTo count executed) (own : ℕ) (bs : ℕ → Carried) (waiting : List Mark) (a b : MarkId) (room : ℕ) where
   abbrev state : State
-  state = queried_state executed own waiting
+  state = queried_state executed count own bs waiting
 
-  pub evidence_no_first : Finds executed a None → EvidenceFound (queried_state executed own waiting) a b room (Err NotExecuted)
-  evidence_no_first f = not-executed state a b room (relate_no_first executed l own waiting a b f)
+  pub evidence_no_first : Finds executed a None → EvidenceFound (queried_state executed count own bs waiting) a b room (Err NotExecuted)
+  evidence_no_first f = not-executed state a b room (relate_no_first count executed l own bs waiting a b f)
 
-  pub evidence_no_second : Finds executed b None → EvidenceFound (queried_state executed own waiting) a b room (Err NotExecuted)
-  evidence_no_second f = not-executed state a b room (relate_no_second executed l own waiting a b f)
+  pub evidence_no_second : Finds executed b None → EvidenceFound (queried_state executed count own bs waiting) a b room (Err NotExecuted)
+  evidence_no_second f = not-executed state a b room (relate_no_second count executed l own bs waiting a b f)
 
-  module _ (p q : Place) (fa : Finds executed a (Some p)) (fb : Finds executed b (Some q)) (s : CausallyOrdered (executed_in executed)) where
+  module _ (p q : Place) (fa : Finds executed a (Some p)) (fb : Finds executed b (Some q)) (s : CausallyOrdered (marks_with bs count executed)) where
     abbrev marks : List Mark
-    marks = executed_in executed
+    marks = marks_with bs count executed
 
-    first_in : p.0 < executed.count
-    first_in = found_inside executed l a p fa
+    first_in : p.0 < count
+    first_in = found_inside count executed l a p fa
 
-    second_in : q.0 < executed.count
-    second_in = found_inside executed l b q fb
+    second_in : q.0 < count
+    second_in = found_inside count executed l b q fb
 
     -- The mark found has the name that it was found by.
     named : (i : MarkId) (r : Place) → Finds executed i (Some r) → name executed r.0 ≡ i
     named i r f =
-        let bs = carried_at executed.boxes executed.pasts in
-        (found_some width executed.desks executed.numbers bs executed.stamps executed.count r.0 i (found_inside executed l i r f) (found-place executed l i r f bs executed.stamps)).1
+        (found_some width executed.desks executed.numbers bs executed.stamps count r.0 i (found_inside count executed l i r f) (found-place count executed l i r f bs executed.stamps)).1
 
     first-name : name executed p.0 ≡ a
     first-name = named a p fa
@@ -159,22 +158,22 @@ module _ (executed : Executed) (l : Lent executed) (own : ℕ) (waiting : List M
     -- There is a chain: in the other order it is that of the verdict that comes with it.
     record Chained (list : Listed) : Type 0 where
       verdict : Relation
-      related : relate (queried_state executed own waiting) a b ≡ gives verdict
-      names : (r : Listed) → Reversed list r → marks_of r ≡ chain_for (executed_in executed) a b verdict
-      long : list.count ≡ length (chain_for (executed_in executed) a b verdict)
-      answer : proved (verdict_at p.0 q.0 list.count) ≡ behind (executed_in executed) a b verdict
+      related : relate (queried_state executed count own bs waiting) a b ≡ gives verdict
+      names : (r : Listed) → Reversed list r → marks_of r ≡ chain_for (marks_with bs count executed) a b verdict
+      long : list.count ≡ length (chain_for (marks_with bs count executed) a b verdict)
+      answer : proved (verdict_at p.0 q.0 list.count) ≡ behind (marks_with bs count executed) a b verdict
 
     -- The chain from place i to place j, of these names.
-    module _ (i j : ℕ) (jc : j < executed.count) (list : Listed) (g : GoneBack executed i j list) (t : T (is_or_follows (executed_in executed) (name executed i) (name executed j)))
+    module _ (i j : ℕ) (jc : j < count) (list : Listed) (g : GoneBack executed i j list) (t : T (is_or_follows (marks_with bs count executed) (name executed i) (name executed j)))
         (x y : MarkId) (ex : name executed i ≡ x) (ey : name executed j ≡ y) where
-      names_as : (r : Listed) → Reversed list r → marks_of r ≡ chain (executed_in executed) x y
-      names_as r v = names_back executed i j list g executed.count jc s t r v ∙ (λ k. chain marks (ex k) (ey k))
+      names_as : (r : Listed) → Reversed list r → marks_of r ≡ chain (marks_with bs count executed) x y
+      names_as r v = names_back executed i j list g count jc bs s t r v ∙ (λ k. chain marks (ex k) (ey k))
 
-      long_as : list.count ≡ length (chain (executed_in executed) x y)
-      long_as = long_back executed i j list g executed.count jc s t ∙ (λ k. length (chain marks (ex k) (ey k)))
+      long_as : list.count ≡ length (chain (marks_with bs count executed) x y)
+      long_as = long_back executed i j list g count jc bs s t ∙ (λ k. length (chain marks (ex k) (ey k)))
 
-    follows : (i j : ℕ) → j < executed.count → FollowsAt executed i j true → T (is_or_follows (executed_in executed) (name executed i) (name executed j))
-    follows i j jc f = rw (← f executed.count jc s) tt
+    follows : (i j : ℕ) → j < count → FollowsAt executed i j true → T (is_or_follows (marks_with bs count executed) (name executed i) (name executed j))
+    follows i j jc f = rw (← f count jc bs s) tt
 
     module _ (from to : ℕ) (ef : from ≡ min p.0 q.0) (et : to ≡ max p.0 q.0) where
       chained : FollowsAt executed from to true → (list : Listed) → GoneBack executed from to list → Chained list
@@ -191,7 +190,7 @@ module _ (executed : Executed) (l : Lent executed) (own : ℕ) (waiting : List M
               let long = long_as p.0 q.0 second_in list w.0 t a b first-name second-name in
               record {
                 verdict = Same;
-                related = relate-same executed l own waiting a b p q fa fb e;
+                related = relate-same count executed l own bs waiting a b p q fa fb e;
                 names = names_as p.0 q.0 second_in list w.0 t a b first-name second-name;
                 long = long;
                 answer = rw (verdict-same p.0 q.0 list.count e) (ap Same long);
@@ -202,7 +201,7 @@ module _ (executed : Executed) (l : Lent executed) (own : ℕ) (waiting : List M
               let long = long_as p.0 q.0 second_in list w.0 t a b first-name second-name in
               record {
                 verdict = Before;
-                related = relate_forward executed l own waiting a b p q fa fb s true true refl e (precedes-at-places executed p.0 q.0 e true w.1);
+                related = relate_forward count executed l own bs waiting a b p q fa fb s true true refl e (precedes-at-places executed p.0 q.0 e true w.1);
                 names = names_as p.0 q.0 second_in list w.0 t a b first-name second-name;
                 long = long;
                 answer = rw (verdict_before p.0 q.0 list.count (λ z. omega arith) e) (ap Before long);
@@ -213,18 +212,18 @@ module _ (executed : Executed) (l : Lent executed) (own : ℕ) (waiting : List M
               let long = long_as q.0 p.0 first_in list w.0 t b a second-name first-name in
               record {
                 verdict = After;
-                related = relate_back executed l own waiting a b p q fa fb s true true refl e (precedes-at-places executed q.0 p.0 e true w.1);
+                related = relate_back count executed l own bs waiting a b p q fa fb s true true refl e (precedes-at-places executed q.0 p.0 e true w.1);
                 names = names_as q.0 p.0 first_in list w.0 t b a second-name first-name;
                 long = long;
                 answer = rw (verdict_after p.0 q.0 list.count (λ z. omega arith) (omega arith)) (ap After long);
               }
 
       pub evidence_too_short : FollowsAt executed from to true → (list : Listed) → GoneBack executed from to list → room < list.count
-          → EvidenceFound (queried_state executed own waiting) a b room (Err OutputShort)
+          → EvidenceFound (queried_state executed count own bs waiting) a b room (Err OutputShort)
       evidence_too_short j list g short = let c = chained j list g in let n = c.long in too_short state a b room c.verdict c.related (omega arith)
 
       pub evidence-shown : FollowsAt executed from to true → (list : Listed) → GoneBack executed from to list → list.count ≤ room
-          → (r : Listed) → Reversed list r → EvidenceFound (queried_state executed own waiting) a b room (Ok (verdict_at p.0 q.0 list.count, r))
+          → (r : Listed) → Reversed list r → EvidenceFound (queried_state executed count own bs waiting) a b room (Ok (verdict_at p.0 q.0 list.count, r))
       evidence-shown j list g enough r v =
           let c = chained j list g in
           let n = v.count in
@@ -236,22 +235,22 @@ module _ (executed : Executed) (l : Lent executed) (own : ℕ) (waiting : List M
 
       -- There is no chain: the marks are concurrent, with these counts, and none is listed.
       pub evidence-concurrent : FollowsAt executed from to false → (r : Found) → CountsOf executed p.0 q.0 r → (list : Listed) → list.count ≡ 0 → Spare list
-          → EvidenceFound (queried_state executed own waiting) a b room (Ok (r, list))
+          → EvidenceFound (queried_state executed count own bs waiting) a b room (Ok (r, list))
       unfolding marks_of
       evidence-concurrent apart r v list n =
-          shown state a b room Concurrent (go order) r list (ap proved (v executed.count first_in second_in s) ∙ (λ i. Concurrent (first i) (second i)))
+          shown state a b room Concurrent (go order) r list (ap proved (v count first_in second_in bs s) ∙ (λ i. Concurrent (first i) (second i)))
           (ap (λ (c : ℕ). reverse (names_down c list.desks list.numbers)) n) (omega arith) (omega arith)
         where
           at : (i j : ℕ) → from ≡ i → to ≡ j → FollowsAt executed i j false
           at i j e f = subst (λ (x : ℕ). FollowsAt executed x j false) e (subst (λ (y : ℕ). FollowsAt executed from y false) f apart)
 
-          go : (p.0 ≡ q.0) ⊎ ((p.0 < q.0) ⊎ (q.0 < p.0)) → relate (queried_state executed own waiting) a b ≡ gives Concurrent
-          go (inl z) = absurd (subst T (sym (at p.0 p.0 (omega arith) (omega arith) executed.count first_in s)) (or_inl (same (name executed p.0) (name executed p.0)) (precedes marks (name executed p.0) (name executed p.0)) (same_refl (name executed p.0))))
-          go (inr (inl z)) = relate_forward executed l own waiting a b p q fa fb s false false refl z (precedes-at-places executed p.0 q.0 z false (at p.0 q.0 (omega arith) (omega arith)))
-          go (inr (inr z)) = relate_back executed l own waiting a b p q fa fb s false false refl z (precedes-at-places executed q.0 p.0 z false (at q.0 p.0 (omega arith) (omega arith)))
+          go : (p.0 ≡ q.0) ⊎ ((p.0 < q.0) ⊎ (q.0 < p.0)) → relate (queried_state executed count own bs waiting) a b ≡ gives Concurrent
+          go (inl z) = absurd (subst T (sym (at p.0 p.0 (omega arith) (omega arith) count first_in bs s)) (or_inl (same (name executed p.0) (name executed p.0)) (precedes marks (name executed p.0) (name executed p.0)) (same_refl (name executed p.0))))
+          go (inr (inl z)) = relate_forward count executed l own bs waiting a b p q fa fb s false false refl z (precedes-at-places executed p.0 q.0 z false (at p.0 q.0 (omega arith) (omega arith)))
+          go (inr (inr z)) = relate_back count executed l own bs waiting a b p q fa fb s false false refl z (precedes-at-places executed q.0 p.0 z false (at q.0 p.0 (omega arith) (omega arith)))
 
-          first : counted_before (executed_in executed) executed p.0 q.0 ≡ in_past (executed_in executed) a.desk b
+          first : counted_before (marks_with bs count executed) executed p.0 q.0 ≡ in_past (marks_with bs count executed) a.desk b
           first = (λ i. min ((first-name i).number - 1) (in_past marks (first-name i).desk (second-name i))) ∙ (let x = (counts_below state s a b (go order)).0 in omega arith)
 
-          second : counted_before (executed_in executed) executed q.0 p.0 ≡ in_past (executed_in executed) b.desk a
+          second : counted_before (marks_with bs count executed) executed q.0 p.0 ≡ in_past (marks_with bs count executed) b.desk a
           second = (λ i. min ((second-name i).number - 1) (in_past marks (second-name i).desk (first-name i))) ∙ (let x = (counts_below state s a b (go order)).1 in omega arith)

@@ -11,10 +11,10 @@ pub returns-in_default : goal.returns-in_default
 returns-in_default c = search (rules, apart-not-executed)
 
 pub apart-list-requires : goal.apart-list-requires
-apart-list-requires c = (c.requires.few, found_inside _ c.requires _ _ c.in-Some.ensures, c.requires.named)
+apart-list-requires c = (c.requires.few, found_inside _ _ c.requires _ _ c.in-Some.ensures, c.requires.named)
 
 pub returns-then-room-list : goal.returns-then-room-list
-returns-then-room-list c own waiting l s = apart_too_short _ l own waiting _ _ _ c.in-Some.ensures s _ c.apart-list.ensures c.if-room-list.true
+returns-then-room-list c own bs waiting l s = apart_too_short _ l own bs waiting _ _ _ c.in-Some.ensures s _ c.apart-list.ensures c.if-room-list.true
 
 pub returns : goal.returns
-returns c own waiting l s = apart-all-listed _ l own waiting _ _ _ c.in-Some.ensures s _ c.apart-list.ensures c.if-room-list.false
+returns c own bs waiting l s = apart-all-listed _ l own bs waiting _ _ _ c.in-Some.ensures s _ c.apart-list.ensures c.if-room-list.false
