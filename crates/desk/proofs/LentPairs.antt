@@ -17,6 +17,7 @@ use Rattle.pairs.specs.inner.Filled.{filled}
 use Rattle.pairs.specs.declared.Listed.{Listed}
 use Rattle.concurrent.specs.Found.{ApartFound}
 use Rattle.evidence.specs.Found.{EvidenceFound}
+use Rattle.rows.specs.View.{carried_at}
 use Rattle.tables.specs.inner.Steps.{Filled}
 use Rattle.verdict.proofs.Invariant.{kept_sound}
 use Rattle.desk.specs.Promises.{ApartPromise, EvidencePromise, PairTablesPromise}
@@ -48,4 +49,4 @@ pub lent_tables : (d : Inside) → IsDesk d → (st : State) → state_of d ≡ 
     → PairTablesPromise st out after r
 unfolding pair_tables_counts
 lent_tables d k st e out after r f =
-    subst (λ (s : State). PairTablesPromise s out after r) e (record { answer = f.answer; counts = f.counts (kept_sound d.own d.executed d.queue k.kept) })
+    subst (λ (s : State). PairTablesPromise s out after r) e (record { answer = f.answer; counts = f.counts (carried_at d.executed.boxes d.executed.pasts) (kept_sound d.own d.executed d.queue k.kept) })
