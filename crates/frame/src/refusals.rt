@@ -1,6 +1,7 @@
 // A refusal's number and its text.
-ghost use Rattle.std.specs.Prelude.{◌≡◌};
+ghost use Rattle.std.specs.Prelude.{◌≡◌, Some};
 ghost use Rattle.frame.specs.Answer.{number_of};
+ghost use Rattle.frame.specs.Texts.{refusal_text};
 
 use crate::Refusal;
 use std::error::Error;
@@ -16,6 +17,10 @@ impl Refusal {
 }
 
 impl fmt::Display for Refusal {
+    ghost output = { λ r. Some (refusal_text r) };
+
+    ghost styled_output = { λ r _. Some (refusal_text r) };
+
     fn fmt<W: fmt::Write>(&self, f: &mut fmt::Formatter<W>) -> fmt::Result {
         f.write_str(match self {
             Refusal::DeskRange => "no such desk",
